@@ -1,0 +1,47 @@
+//! Laws of walks and of the least that they give. Each function does nothing: its contract is the law.
+ghost use Rattle.graph_model.specs.Laws.{WalksJoin, WalksCut, WalksEndByArc, LevelsStep, LevelsGrow, LevelsEnd, LeastIsUnique, WalksShorten, LeastIsWithinNodes};
+
+/// Two walks join where the one ends and the other starts.
+pub fn walks_join()
+    ensures { WalksJoin }
+{}
+
+/// A walk may be cut after each of its arcs, into a walk up to there and a walk from there.
+pub fn walks_cut()
+    ensures { WalksCut }
+{}
+
+/// A walk with an arc in it is a walk and a last arc.
+pub fn walks_end_by_arc()
+    ensures { WalksEndByArc }
+{}
+
+/// The walks of at most one arc more are those within the limit, and those with a last arc after them.
+pub fn levels_step()
+    ensures { LevelsStep }
+{}
+
+/// The walks within a limit are among those within a larger limit.
+pub fn levels_grow()
+    ensures { LevelsGrow }
+{}
+
+/// The walks within a limit are among all walks.
+pub fn levels_end()
+    ensures { LevelsEnd }
+{}
+
+/// At most one answer is the least.
+pub fn least_is_unique()
+    ensures { LeastIsUnique }
+{}
+
+/// What a walk of a graph gives, a walk of fewer arcs than nodes gives too, or less.
+pub fn walks_shorten()
+    ensures { WalksShorten }
+{}
+
+/// The least over all walks of a graph is the least over those of fewer arcs than nodes.
+pub fn least_is_within_nodes()
+    ensures { LeastIsWithinNodes }
+{}

@@ -1,0 +1,39 @@
+//! Each call once.
+use crate::{
+    Edge, EdgeList, Way, least_is_unique, least_is_within_nodes, levels_end, levels_grow,
+    levels_step, walks_cut, walks_end_by_arc, walks_join, walks_shorten,
+};
+use std::test::Fail;
+
+#[test]
+fn a_list_keeps_its_nodes_and_edges(rt: HostRuntime) -> Result<(), Fail> {
+    let there = Edge {
+        src: 0,
+        dst: 1,
+        weight: 5,
+    };
+    let edges = vec![in rt.alloc(); there]?;
+    let list = EdgeList::from_parts(2, edges);
+    assert_eq!(rt; list.nodes(), 2);
+    assert_eq!(rt; list.edges(), [there].as_slice(), "in {list:?}");
+    Ok(())
+}
+
+#[test]
+fn ways_differ(rt: HostRuntime) {
+    assert_ne!(rt; Way::Outward, Way::Inward);
+    assert_ne!(rt; Way::Inward, Way::Both);
+}
+
+#[test]
+fn laws_return() {
+    walks_join();
+    walks_cut();
+    walks_end_by_arc();
+    levels_step();
+    levels_grow();
+    levels_end();
+    least_is_unique();
+    walks_shorten();
+    least_is_within_nodes();
+}

@@ -1,0 +1,5 @@
+pub mod Faults
+pub mod Bytes
+pub mod Listed
+pub mod MemoryInput
+pub mod MemoryOutput

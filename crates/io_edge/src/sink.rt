@@ -1,0 +1,43 @@
+//! Where bytes go.
+ghost use Rattle.std.specs.Prelude.{◌≡◌, ℕ, ◌<◌, ◌≤◌, List, length, take, Option, IfOk, OnOk, OnErr};
+ghost use Rattle.io_edge.specs.Faults.{Rose};
+ghost use Rattle.io_edge.specs.Bytes.{Gains, GainsPrefix};
+
+use thiserror::Error;
+
+/// A write failed.
+#[derive(Clone, Copy, Debug, PartialEq, Eq, Drop, Error)]
+#[error("a write failed")]
+pub struct SinkFault;
+
+/// Takes bytes, piece by piece.
+pub trait Sink {
+    /// The bytes written so far, where the sink tells them.
+    ghost held: { Self → Option (List ℕ) };
+
+    /// How many faults it met so far, at most 2^64 - 1.
+    ghost faults: { Self → ℕ };
+
+    /// Takes a front of `bytes`, and answers its length, which is not 0 where `bytes` is not empty.
+    fn write(&mut self, bytes: &[u8]) -> Result<usize, SinkFault>
+        ensures count { IfOk result (λ n. n ≤ length bytes.now) }
+        ensures progress { IfOk result (λ n. 0 < length bytes.now → 0 < n) }
+        ensures gained { IfOk result (λ n. Gains (held self.old) (held self.new) (take n bytes.now)) }
+        ensures quiet { OnOk result (faults self.new ≡ faults self.old) }
+        ensures rose { OnErr result (Rose (faults self.old) (faults self.new)) }
+        ensures held_stays { OnErr result (held self.new ≡ held self.old) };
+}
+
+/// Writes all of `bytes`. Where a write fails, a front of them was written.
+pub fn write_whole<K: Sink>(sink: &mut K, bytes: &[u8]) -> Result<(), SinkFault>
+    ensures whole { OnOk result (Gains (K.held sink.old) (K.held sink.new) bytes.now) }
+    ensures quiet { OnOk result (K.faults sink.new ≡ K.faults sink.old) }
+    ensures rose { OnErr result (Rose (K.faults sink.old) (K.faults sink.new)) }
+    ensures prefix { OnErr result (GainsPrefix (K.held sink.old) (K.held sink.new) bytes.now) }
+{
+    let mut done = 0;
+    while done < bytes.len() {
+        done += sink.write(&bytes[done..])?;
+    }
+    Ok(())
+}
