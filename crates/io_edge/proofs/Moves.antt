@@ -15,6 +15,11 @@ pub Gives-[] : (a : Option (List ℕ)) → Gives a a []
 Gives-[] None = refl
 Gives-[] (Some bytes) = refl
 
+-- bytes given out of bytes that are told: what is left is told too
+pub Gives-told : (bytes got : List ℕ) (b : Option (List ℕ)) → Gives (Some bytes) b got → (rest : List ℕ) × (b ≡ Some rest) × (bytes ≡ got ++ rest)
+Gives-told bytes got None gives = let no : ⊥ = cc in absurd no
+Gives-told bytes got (Some rest) gives = (rest, refl, cc)
+
 -- bytes gained in two calls
 pub Gains-++ : (a b c : Option (List ℕ)) (xs ys : List ℕ) → Gains a b xs → Gains b c ys → Gains a c (xs ++ ys)
 Gains-++ None b c xs ys first second = cc

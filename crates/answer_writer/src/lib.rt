@@ -1,0 +1,14 @@
+//! The lines of text that a run writes: the answer of a vertex, and words followed by numbers.
+//!
+//! Numbers are decimal without leading zeros, fields are parted by one space, and every line ends with one
+//! newline. No call takes memory. Where a write fails, a front of the call's bytes was written.
+#![tactic(auto)]
+
+mod answer;
+mod digits;
+#[cfg(test)]
+mod tests;
+mod words;
+
+pub use answer::write_answer;
+pub use words::{write_number, write_words};

@@ -1,0 +1,55 @@
+//! The bytes of each line, and what a sink that fails holds of it.
+use super::*;
+use io_edge::MemorySink;
+use std::alloc::Global;
+use std::test::Fail;
+
+#[test]
+fn answers_have_a_number_and_a_value_or_a_dash(rt: HostRuntime) -> Result<(), Fail> {
+    let alloc: Global = rt.alloc();
+    let mut sink = MemorySink::new(alloc, 100, 7, Vec::new(alloc))?;
+    for (v, value) in [
+        (0, Some(0)),
+        (1, None),
+        (4_294_967_295, Some(18_446_744_073_709_551_615)),
+    ] {
+        assert_eq!(rt; write_answer(&mut sink, v, value), Ok(()));
+    }
+    let want = b"0 0\n1 -\n4294967295 18446744073709551615\n";
+    assert_eq!(rt; sink.held(), want.as_slice());
+    Ok(())
+}
+
+#[test]
+fn words_are_followed_by_numbers_in_their_order(rt: HostRuntime) -> Result<(), Fail> {
+    let alloc: Global = rt.alloc();
+    let mut sink = MemorySink::new(alloc, 100, 7, Vec::new(alloc))?;
+    assert_eq!(rt; write_words(&mut sink, "fault: words", &[]), Ok(()));
+    assert_eq!(rt;
+        write_words(&mut sink, "edge", &[0, 10, 9, 18_446_744_073_709_551_615]),
+        Ok(())
+    );
+    let nine = [1, 2, 3, 4, 5, 6, 7, 8, 9];
+    assert_eq!(rt; write_words(&mut sink, "nine", &nine), Ok(()));
+    assert_eq!(rt; write_number(&mut sink, 120), Ok(()));
+    let want = b"fault: words\nedge 0 10 9 18446744073709551615\nnine 1 2 3 4 5 6 7 8 9\n120";
+    assert_eq!(rt; sink.held(), want.as_slice());
+    Ok(())
+}
+
+#[test]
+fn a_sink_that_fails_holds_a_front_of_the_line(rt: HostRuntime) -> Result<(), Fail> {
+    let alloc: Global = rt.alloc();
+    let mut sink = MemorySink::new(alloc, 100, 4, Vec::from_slice(alloc, &[2, 6])?)?;
+    assert_eq!(rt;
+        write_answer(&mut sink, 12, Some(3_456_789)),
+        Err(io_edge::SinkFault)
+    );
+    assert_eq!(rt; sink.held(), b"12 34567".as_slice());
+    assert_eq!(rt;
+        write_words(&mut sink, "nodes", &[7, 1_234_567]),
+        Err(io_edge::SinkFault)
+    );
+    assert_eq!(rt; sink.held(), b"12 34567nodes 7 1234".as_slice());
+    Ok(())
+}

@@ -1,0 +1,17 @@
+pub mod Rising
+pub mod NumberLemmas
+pub mod MarkLemmas
+pub mod Chosen
+pub mod ReadBack
+pub mod OneForm
+pub mod FormLength
+pub mod Accepted
+pub mod EntryOrderLemmas
+pub mod Lookups
+pub mod BitPlaces
+pub mod Upcoming
+pub mod FirstFault
+pub mod ReaderLemmas
+pub mod Shortest
+pub mod Writing
+pub mod BitVector

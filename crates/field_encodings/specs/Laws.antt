@@ -1,0 +1,34 @@
+-- What holds of the forms and the checks, whatever a word is: each form is read back, with a tag above
+-- 0 entries have one form, and the table of lengths tells how long a form is.
+use Rattle.std.specs.Prelude.{◌≡◌, ◌<◌, ◌^◌, ℕ, Bool, List, length, Ok}
+use Rattle.std.specs.List.{All}
+use Rattle.std.specs.List.Sorted.{IsStrictlyIncreasing}
+use Rattle.field_encodings.specs.Marks.{marked_from}
+use Rattle.field_encodings.specs.Lengths.{form_length, greatest_of}
+use Rattle.field_encodings.specs.Forms.{IsForm, entries}
+use Rattle.field_encodings.specs.Checks.{checked}
+
+-- the global ids of a list: they rise, each is a number of four bytes, and so is their count
+pub record AreIds (ids : List ℕ) : Type 0 where
+  pub rise : IsStrictlyIncreasing ids
+  pub fit : All (λ id. id < 2 ^ 32) ids
+  pub few : length ids < 2 ^ 32
+
+-- the checks pass a form, and find the entries from which it was made
+abbrev pub FormsReadBack : {X : Type 0} → (size : ℕ) → (X → Type 0) → (X → List ℕ) → (List ℕ → X) → Type 0
+FormsReadBack {X} size IsValue bytes_of value_of =
+    (ids bytes : List ℕ) (tag : ℕ) (marks : List Bool) (values : List X) → AreIds ids → IsForm IsValue bytes_of ids bytes tag marks values
+    → checked size value_of ids bytes ≡ Ok (entries tag marks values)
+
+-- two forms of one tag above 0 that carry the same entries are the same bytes
+abbrev pub EntriesHaveOneForm : {X : Type 0} → (X → Type 0) → (X → List ℕ) → Type 0
+EntriesHaveOneForm {X} IsValue bytes_of =
+    (ids bytes others : List ℕ) (tag : ℕ) (marks more_marks : List Bool) (values more_values : List X) → 0 < tag
+    → IsForm IsValue bytes_of ids bytes tag marks values → IsForm IsValue bytes_of ids others tag more_marks more_values
+    → entries tag marks values ≡ entries tag more_marks more_values → bytes ≡ others
+
+-- a form is as long as the table of lengths says
+abbrev pub FormsHaveTheirLength : {X : Type 0} → (size : ℕ) → (X → Type 0) → (X → List ℕ) → Type 0
+FormsHaveTheirLength {X} size IsValue bytes_of =
+    (ids bytes : List ℕ) (tag : ℕ) (marks : List Bool) (values : List X) → IsForm IsValue bytes_of ids bytes tag marks values
+    → length bytes ≡ form_length (length ids) (length (marked_from 0 marks)) (greatest_of (marked_from 0 marks)) size tag

@@ -1,0 +1,9 @@
+pub mod Numbers
+pub mod Marks
+pub mod Lengths
+pub mod Forms
+pub mod Checks
+pub mod Laws
+pub mod Lists
+pub mod Places
+pub mod EntryOrder

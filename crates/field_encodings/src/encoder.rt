@@ -1,0 +1,190 @@
+ghost use Rattle.std.specs.Prelude.{◌≡◌, ◌<◌, ◌≤◌, ◌+◌, ◌*◌, ◌^◌, ◌++◌, ℕ, length, take, drop, slice_index, vec_len, IfOk};
+ghost use Rattle.std.specs.List.{All, flat_map};
+ghost use Rattle.std.specs.List.Sorted.{IsStrictlyIncreasing};
+ghost use Rattle.field_encodings.specs.Lists.{marks_at, values_at};
+ghost use Rattle.field_encodings.specs.Marks.{marked_from};
+ghost use Rattle.field_encodings.specs.Forms.{form, names, sent};
+ghost use Rattle.field_encodings.specs.Lengths.{form_length, greatest_of, IsSentTag};
+
+use crate::chosen_form::choose_form;
+use crate::coded::Coded;
+use crate::form_writers::{write_bit_form, write_id_form, write_position_form};
+use crate::updated::{Updated, count_updated};
+use crate::writers::write_all;
+use graph_model::MAX_NODES;
+use reduce_laws::Word;
+use update_bits::UpdateBits;
+
+// Writes what follows the tag, over the whole of `rest`.
+fn write_rest<W: Word>(
+    tag: u8,
+    values: &[W],
+    locals: &[u32],
+    ids: &[u32],
+    bits: &UpdateBits,
+    updated: Updated,
+    rest: &mut [u8],
+)
+    requires is_tag { tag ≤ 3 }
+    requires short { length locals.now < 2 ^ 32 }
+    requires one_length { length locals.now ≡ length ids.now }
+    requires has_values { All (λ local. local < length values.now) locals.now }
+    requires has_bits { All (λ local. local < length bits.now) locals.now }
+    requires count { updated.count ≡ length (marked_from 0 (marks_at bits.now locals.now)) }
+    requires last { updated.greatest ≡ greatest_of (marked_from 0 (marks_at bits.now locals.now)) }
+    requires room { 1 + length rest.old ≡ form_length (length ids.now) updated.count updated.greatest W.WIDTH tag }
+    ensures { rest.new ≡ names tag ids.now (marks_at bits.now locals.now)
+        ++ flat_map W.bytes_of (sent tag (marks_at bits.now locals.now) (values_at values.now locals.now)) }
+{
+    match tag {
+        0 => write_all(values, locals, rest),
+        1 => write_bit_form(values, locals, bits, rest),
+        2 => write_position_form(values, locals, bits, updated.count, updated.greatest, rest),
+        _ => write_id_form(values, locals, ids, bits, updated.count, rest),
+    }
+}
+
+// Writes the form of the tag over the whole of `text`.
+fn write_form<W: Word>(
+    tag: u8,
+    values: &[W],
+    locals: &[u32],
+    ids: &[u32],
+    bits: &UpdateBits,
+    updated: Updated,
+    text: &mut [u8],
+)
+    requires is_tag { tag ≤ 3 }
+    requires short { length locals.now < 2 ^ 32 }
+    requires one_length { length locals.now ≡ length ids.now }
+    requires has_values { All (λ local. local < length values.now) locals.now }
+    requires has_bits { All (λ local. local < length bits.now) locals.now }
+    requires count { updated.count ≡ length (marked_from 0 (marks_at bits.now locals.now)) }
+    requires last { updated.greatest ≡ greatest_of (marked_from 0 (marks_at bits.now locals.now)) }
+    requires room { length text.old ≡ form_length (length ids.now) updated.count updated.greatest W.WIDTH tag }
+    ensures { text.new ≡ form W.bytes_of tag ids.now (marks_at bits.now locals.now) (values_at values.now locals.now) }
+{
+    text[0] = tag;
+    write_rest(tag, values, locals, ids, bits, updated, &mut text[1..]);
+}
+
+/// Writes the shortest form of a list's updated values over the front of `out`, the one of the smaller
+/// tag on a tie, and says which it is and how long. The list is `locals`, its local numbers, with
+/// `ids`, its global ids; both rise, and the values and the set `bits` are kept by local number. The
+/// empty list gives the one byte `03`. `out` has room for the form of all values; what lies behind the
+/// form stays.
+pub fn encode<W: Word>(
+    values: &[W],
+    locals: &[u32],
+    ids: &[u32],
+    bits: &UpdateBits,
+    out: &mut [u8],
+) -> Coded
+    requires one_length { length locals.now ≡ length ids.now }
+    requires short { length ids.now ≤ MAX_NODES }
+    requires locals_rise { IsStrictlyIncreasing locals.now }
+    requires ids_rise { IsStrictlyIncreasing ids.now }
+    requires has_values { All (λ local. local < length values.now) locals.now }
+    requires has_bits { All (λ local. local < length bits.now) locals.now }
+    requires room { 1 + length ids.now * W.WIDTH ≤ length out.old }
+    ensures shortest { let updated = marked_from 0 (marks_at bits.now locals.now) in
+        IsSentTag (length ids.now) (length updated) (greatest_of updated) W.WIDTH result.tag }
+    ensures length { let updated = marked_from 0 (marks_at bits.now locals.now) in
+        result.len ≡ form_length (length ids.now) (length updated) (greatest_of updated) W.WIDTH result.tag }
+    ensures form { take result.len out.new
+        ≡ form W.bytes_of result.tag ids.now (marks_at bits.now locals.now) (values_at values.now locals.now) }
+    ensures rest { drop result.len out.new ≡ drop result.len out.old }
+{
+    let updated = count_updated(locals, bits);
+    let coded = choose_form(
+        locals.len() as u32,
+        updated.count,
+        updated.greatest,
+        W::WIDTH,
+    );
+    let text = &mut out[..coded.len as usize];
+    write_form(coded.tag, values, locals, ids, bits, updated, text);
+    coded
+}
+
+#[cfg(test)]
+mod tests {
+    use super::*;
+    use std::alloc::{AllocError, Global};
+    use std::process::Abort;
+    use std::test::Fail;
+
+    // The numbers below n, rising.
+    fn numbers_below(alloc: Global, n: u32) -> Result<Vec<u32>, AllocError>
+        ensures len { IfOk result (λ v. vec_len v ≡ n) }
+        ensures each { IfOk result (λ v. (k : ℕ) → k < n → slice_index v.items k ≡ k) }
+    {
+        let mut numbers = Vec::new(alloc);
+        for k in 0..n {
+            numbers.push(k)?;
+        }
+        Ok(numbers)
+    }
+
+    // The form that is sent for n positions with one value, where these are updated.
+    fn form_of<W: Word>(
+        rt: &impl Abort,
+        alloc: Global,
+        n: u32,
+        updated: &[u32],
+        value: W,
+    ) -> Result<Vec<u8>, AllocError> {
+        assert!(rt; n <= 100_000);
+        let locals = numbers_below(alloc, n)?;
+        let values = vec![in alloc; value; n as usize]?;
+        let mut bits = UpdateBits::new(alloc, n)?;
+        for position in updated {
+            assert!(rt; *position < bits.len());
+            bits.set(*position);
+        }
+        let mut out = vec![in alloc; 0xee; 1 + n as usize * W::WIDTH as usize]?;
+        let coded = encode(&values, &locals, &locals, &bits, &mut out);
+        out.truncate(coded.len as usize);
+        Ok(out)
+    }
+
+    #[test]
+    fn the_shortest_form_goes_out(rt: HostRuntime) -> Result<(), Fail> {
+        let rows = [
+            (9, [3].as_slice(), 5, [1, 8, 0, 5, 0, 0, 0].as_slice()),
+            (
+                1_000,
+                [255].as_slice(),
+                7,
+                [2, 1, 255, 7, 0, 0, 0].as_slice(),
+            ),
+            (
+                1_000,
+                [256].as_slice(),
+                7,
+                [2, 2, 0, 1, 7, 0, 0, 0].as_slice(),
+            ),
+            (
+                100_000,
+                [65_535].as_slice(),
+                7,
+                [2, 2, 255, 255, 7, 0, 0, 0].as_slice(),
+            ),
+            (
+                100_000,
+                [65_536].as_slice(),
+                7,
+                [3, 0, 0, 1, 0, 7, 0, 0, 0].as_slice(),
+            ),
+            (5, [].as_slice(), 7, [3].as_slice()),
+            (0, [].as_slice(), 7, [3].as_slice()),
+        ];
+        for (n, updated, value, want) in rows {
+            let form = form_of::<u32>(&rt, rt.alloc(), n, updated, value)?;
+            assert_eq!(rt; form.as_slice(), want, "of {n} positions");
+        }
+        let form = form_of::<u8>(&rt, rt.alloc(), 8, &[0, 1, 2, 3, 4, 5, 6], 9)?;
+        assert_eq!(rt; form.as_slice(), [0, 9, 9, 9, 9, 9, 9, 9, 9].as_slice());
+        Ok(())
+    }
+}

@@ -1,0 +1,22 @@
+ghost use Rattle.std.specs.Prelude.{◌≡◌, ◌<◌, ◌≤◌, ◌+◌, ◌*◌, length, take, drop};
+ghost use Rattle.field_encodings.specs.Numbers.{le_number};
+ghost use Rattle.field_encodings.specs.Places.{IsPositionWidth};
+
+// The number at turn `i` of a text of numbers that take `width` bytes each.
+#[tactic(auto, unfolding(crate::specs::Numbers::le_number))]
+pub fn number_at(width: u8, text: &[u8], i: usize) -> u32
+    requires width { IsPositionWidth width }
+    requires within { (i + 1) * width ≤ length text.now }
+    ensures { result ≡ le_number (take width (drop (i * width) text.now)) }
+{
+    match width {
+        1 => text[i] as u32,
+        2 => u16::from_le_bytes([text[2 * i], text[2 * i + 1]]) as u32,
+        _ => u32::from_le_bytes([
+            text[4 * i],
+            text[4 * i + 1],
+            text[4 * i + 2],
+            text[4 * i + 3],
+        ]),
+    }
+}

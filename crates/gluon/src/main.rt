@@ -1,0 +1,32 @@
+//! The program: words from the command line, a graph on standard input, answers on standard output.
+#![tactic(auto)]
+
+use gluon_top::gluon_main;
+use io_edge::{FirstPicks, StdSink, StdSource};
+use std::alloc::AllocError;
+use std::process::ExitCode;
+use std::rt::Env;
+use std::{env, io};
+
+/// The status where the words cannot be gathered for want of memory.
+const NO_MEMORY: u8 = 4;
+
+fn main(rt: HostRuntime) -> ExitCode {
+    let words = match gathered_words(&rt) {
+        Ok(words) => words,
+        Err(AllocError) => return ExitCode::from(NO_MEMORY),
+    };
+    let mut source = StdSource::new(rt.stdin());
+    let mut sink = StdSink::new(rt.stdout());
+    let outcome = gluon_main(rt.alloc(), &words, &mut source, &mut sink, &mut FirstPicks);
+    ExitCode::from(outcome.status)
+}
+
+/// The words after the program's name. Where they are not text there are none, which is refused.
+fn gathered_words(rt: &(impl Env + AllocGlobal)) -> Result<Vec<String>, AllocError> {
+    match env::args(rt) {
+        Ok(args) => args.skip(1).collect(rt.alloc()),
+        Err(error) if error.kind() == io::ErrorKind::OutOfMemory => Err(AllocError),
+        Err(_) => Ok(Vec::new(rt.alloc())),
+    }
+}

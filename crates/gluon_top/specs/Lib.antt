@@ -1,0 +1,6 @@
+pub mod Words
+pub mod Fault
+pub mod Distances
+pub mod LevelsSteps
+pub mod Meaning
+pub mod Outcome

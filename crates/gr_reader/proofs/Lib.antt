@@ -1,0 +1,11 @@
+pub mod Known
+pub mod Numbers
+pub mod Falls
+pub mod IndexLaws
+pub mod CursorLaws
+pub mod EdgeLaws
+pub mod DestinationLaws
+pub mod GraphLaws
+pub mod WeightLaws
+pub mod MeaningLaws
+pub mod HeadLaws

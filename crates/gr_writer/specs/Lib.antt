@@ -1,0 +1,4 @@
+pub mod Column
+pub mod File
+pub mod Page
+pub mod ReadAgain
