@@ -1,5 +1,5 @@
 //! Breadth-first search by levels, on the whole list of edges.
-ghost use Rattle.std.specs.Prelude.{◌≡◌, ℕ, ◌+◌, ◌<◌, ◌≤◌, length, All, IfOk, OnOk, IsSome, vec_len, slice_index, slice_get};
+ghost use Rattle.std.specs.Prelude.{◌≡◌, ◌+◌, ◌<◌, length, All, IfOk, OnOk, vec_len};
 ghost use Rattle.graph_model.specs.Graph.{IsGraph};
 ghost use Rattle.gluon_top.specs.Distances.{AreLevels};
 ghost use Rattle.gluon_top.specs.LevelsSteps.{AreFirstEdges, AreEdgesOf, IsReached, Reached};

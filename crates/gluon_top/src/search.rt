@@ -23,6 +23,7 @@ pub(crate) fn search<S: Source>(
     ensures means { IfSome (S.left source.old) (λ bytes.
         Finds (λ distances. distances.items) result (S.left source.new) (search_of (texts_of words.now) bytes)) }
     ensures words { (result ≡ Err Fault.Words) ↔ (root_of (texts_of words.now) ≡ None) }
+    ensures unread { root_of (texts_of words.now) ≡ None → S.left source.new ≡ S.left source.old }
     ensures counts { Counts result (S.faults source.old) (S.faults source.new) }
     ensures fits { IfOk result (λ distances. vec_len distances ≤ MAX_NODES) }
 {

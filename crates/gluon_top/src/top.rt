@@ -1,5 +1,5 @@
 //! The top call.
-ghost use Rattle.std.specs.Prelude.{◌≡◌, ◌≢◌, ◌≤◌, ℕ, List, [], ◌∷◌, Contains, Some, None, IfSome, IsOk, IfOk, OnOk, OnErr, vec_len};
+ghost use Rattle.std.specs.Prelude.{◌≡◌, ◌≢◌, ◌≤◌, [], ◌∷◌, Contains, Some, None, IfSome, IsOk, IfOk, OnOk, OnErr, vec_len};
 ghost use Rattle.io_edge.specs.Faults.{Rose, IsQuiet};
 ghost use Rattle.io_edge.specs.Bytes.{Gains, GainsPrefix};
 ghost use Rattle.graph_model.specs.declared.edge_list.TheConstants.{MAX_NODES};
@@ -52,6 +52,7 @@ pub fn gluon_main<S: Source, K: Sink, P: Picker>(
     ensures words_only { result.status ≡ 2 → root_of (texts_of words.now) ≡ None }
     ensures words { root_of (texts_of words.now) ≡ None →
         RefusesWords result.status (K.held sink.old) (K.held sink.new) }
+    ensures unread { root_of (texts_of words.now) ≡ None → S.left source.new ≡ S.left source.old }
     // 3 comes exactly where the input has a fault, and no read or write failed.
     ensures input_only { result.status ≡ 3 → IfSome (S.left source.old) (λ bytes.
         HasInputFault (search_of (texts_of words.now) bytes)) }

@@ -1,9 +1,9 @@
 //! The destinations, from which the edges are made.
-ghost use Rattle.std.specs.Prelude.{◌≡◌, ℕ, ◌+◌, ◌-◌, ◌*◌, ◌/◌, ◌<◌, ◌≤◌, List, [], ◌∷◌, ◌++◌, length, drop, vec_len, None, IfOk, IfErr, IfSome, OnOk};
+ghost use Rattle.std.specs.Prelude.{◌≡◌, ◌+◌, ◌-◌, ◌*◌, ◌/◌, ◌<◌, ◌≤◌, [], ◌∷◌, ◌++◌, length, drop, vec_len, None, IfOk, IfErr, IfSome, OnOk};
 ghost use Rattle.std.specs.Int.{w32};
 ghost use Rattle.gr_reader.specs.Numbers.{whole_numbers};
 ghost use Rattle.graph_model.specs.Graph.{IsGraph};
-ghost use Rattle.gr_reader.specs.File.{first_outside, last_entry, sources, destinations_at};
+ghost use Rattle.gr_reader.specs.File.{first_outside, last_entry, sources};
 ghost use Rattle.gr_reader.specs.Reading.{IsHead, IsOfRest, Means, Takes, Counts};
 ghost use Rattle.gr_reader.specs.Sections.{NeverFalls, IsDestinationFault};
 ghost use Rattle.gr_reader.specs.EdgeLists.{plain_edges, plain_edges_at, unweighed, IsCursor, TookDestinations, HasDestinationFault};

@@ -1,5 +1,5 @@
 //! The head of a file.
-ghost use Rattle.std.specs.Prelude.{◌≡◌, ℕ, ◌+◌, ◌≤◌, length, drop, MatchResult, Ok, Err, IfOk, IfErr, IfSome};
+ghost use Rattle.std.specs.Prelude.{◌≡◌, ◌+◌, ◌≤◌, length, drop, MatchResult, Ok, Err, IfOk, IfErr, IfSome};
 ghost use Rattle.gr_reader.specs.File.{long_at, head_at};
 ghost use Rattle.gr_reader.specs.Reading.{IsHead, IsOfHead, IsFormatFault, Means, Takes, Counts};
 

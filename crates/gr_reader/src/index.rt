@@ -1,5 +1,5 @@
 //! The index: where the edges of each node end.
-ghost use Rattle.std.specs.Prelude.{◌≡◌, ℕ, ◌+◌, ◌-◌, ◌*◌, ◌≤◌, List, [], ◌++◌, length, vec_len, None, IfOk, IfErr, IfSome, OnOk};
+ghost use Rattle.std.specs.Prelude.{◌≡◌, ◌-◌, ◌*◌, ◌≤◌, [], ◌++◌, length, vec_len, None, IfOk, IfErr, IfSome, OnOk};
 ghost use Rattle.std.specs.Int.{w64};
 ghost use Rattle.graph_model.specs.declared.edge_list.TheConstants.{MAX_NODES};
 ghost use Rattle.gr_reader.specs.Numbers.{whole_numbers};

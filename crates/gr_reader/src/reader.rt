@@ -1,5 +1,5 @@
 //! The reader of a file, stage by stage.
-ghost use Rattle.std.specs.Prelude.{◌≡◌, ◌≢◌, ℕ, IfOk, IfErr, IfSome, OnErr, Err};
+ghost use Rattle.std.specs.Prelude.{◌≡◌, IfOk, IfErr, IfSome, OnErr};
 
 use crate::fault::GrFault;
 use crate::head::{Head, take_head};

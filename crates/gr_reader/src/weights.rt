@@ -1,5 +1,5 @@
 //! The weights, and the padding before them.
-ghost use Rattle.std.specs.Prelude.{◌≡◌, ℕ, ◌+◌, ◌-◌, ◌*◌, ◌/◌, ◌<◌, ◌≤◌, List, [], length, vec_len, IfOk, IfErr, IfSome};
+ghost use Rattle.std.specs.Prelude.{◌≡◌, ◌-◌, ◌*◌, ◌/◌, ◌≤◌, [], length, vec_len, IfOk, IfErr, IfSome};
 ghost use Rattle.std.specs.Int.{w32};
 ghost use Rattle.gr_reader.specs.Numbers.{whole_numbers};
 ghost use Rattle.gr_reader.specs.File.{padding, padding_at};

@@ -1,5 +1,5 @@
 //! Two files byte by byte, and a write that fails in the middle.
-ghost use Rattle.std.specs.Prelude.{◌≡◌, ℕ, IfSome};
+ghost use Rattle.std.specs.Prelude.{◌≡◌, IfSome};
 
 use super::*;
 use graph_model::{Edge, EdgeList, MAX_EDGES, MAX_NODES};

@@ -1,5 +1,5 @@
 //! The whole file of a graph.
-ghost use Rattle.std.specs.Prelude.{◌≡◌, ℕ, ◌≤◌, OnOk, OnErr, ◌++◌};
+ghost use Rattle.std.specs.Prelude.{◌≡◌, OnOk, OnErr, ◌++◌};
 ghost use Rattle.io_edge.specs.Faults.{Rose};
 ghost use Rattle.io_edge.specs.Bytes.{Gains, GainsPrefix};
 ghost use Rattle.gr_writer.specs.File.{long_words, head_of, padding_of, weights_of, file_of, IsWritable};

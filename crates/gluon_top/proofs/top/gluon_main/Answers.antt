@@ -28,6 +28,7 @@ returns g c =
       known = known view held held' fk fk' c.finish.result outcome written;
       words_only = words_only view (root_of words) held held' fk fk' c.finish.result outcome searched.words written;
       words = words_refused view (root_of words) held held' fk fk' c.finish.result outcome searched.words written;
+      unread = searched.unread;
       input_only = λ three. IfSome_then left searched.means (λ bytes finds.
           input_only view (search_of words bytes) left' held held' fs fs' fk fk' c.finish.result outcome finds searched.counts written three);
       input = IfSome_then left searched.means (λ bytes finds faulty not4 not6 not7.
