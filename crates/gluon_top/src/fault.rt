@@ -40,27 +40,17 @@ impl From<AllocError> for Fault {
     }
 }
 
-/// The line of a fault: a text, which may have a number at its end, in its middle, or at both places.
+/// The line of a fault.
 #[derive(Clone, Copy, Debug)]
 pub(crate) enum Line {
-    Plain {
-        text: &'static str,
-    },
-    Number {
-        text: &'static str,
-        number: u64,
-    },
-    Middle {
-        before: &'static str,
-        number: u64,
-        after: &'static str,
-    },
-    Both {
-        before: &'static str,
-        number: u64,
-        after: &'static str,
-        last: u64,
-    },
+    /// A text alone.
+    Plain(&'static str),
+    /// A text, and after a space a number.
+    Number(&'static str, u64),
+    /// A text, a number, and the text that follows it.
+    Middle(&'static str, u64, &'static str),
+    /// A text, a number, the text that follows it, and after a space a second number.
+    Both(&'static str, u64, &'static str, u64),
 }
 
 impl Fault {
@@ -83,15 +73,13 @@ impl Fault {
         ensures memory { status_of self ≡ 4 → result ≡ None }
     {
         match self {
-            Fault::Words => Some(Line::Plain {
-                text: "fault: words",
-            }),
-            Fault::Root { root, nodes } => Some(Line::Both {
-                before: "fault: root ",
-                number: u64::from(root),
-                after: " of",
-                last: u64::from(nodes),
-            }),
+            Fault::Words => Some(Line::Plain("fault: words")),
+            Fault::Root { root, nodes } => Some(Line::Both(
+                "fault: root ",
+                u64::from(root),
+                " of",
+                u64::from(nodes),
+            )),
             Fault::Input(fault) => line_of_input(fault),
             Fault::Memory => None,
         }
@@ -104,47 +92,17 @@ fn line_of_input(fault: GrFault) -> Option<Line>
     ensures memory { fault ≡ GrFault.Memory → result ≡ None }
 {
     let line = match fault {
-        GrFault::Ends { section, got } => Line::Middle {
-            before: text_of_end(section),
-            number: got,
-            after: " bytes",
-        },
-        GrFault::Version(number) => Line::Number {
-            text: "fault: version",
-            number,
-        },
-        GrFault::EdgeSize(number) => Line::Number {
-            text: "fault: edge size",
-            number,
-        },
-        GrFault::Nodes(number) => Line::Number {
-            text: "fault: nodes",
-            number,
-        },
-        GrFault::Edges(number) => Line::Number {
-            text: "fault: edges",
-            number,
-        },
-        GrFault::IndexFalls(node) => Line::Middle {
-            before: "fault: index ",
-            number: u64::from(node),
-            after: " falls",
-        },
-        GrFault::IndexEnds { got, want } => Line::Both {
-            before: "fault: index ends at ",
-            number: got,
-            after: " of",
-            last: want,
-        },
-        GrFault::Destination { edge, dst } => Line::Both {
-            before: "fault: edge ",
-            number: u64::from(edge),
-            after: " goes to",
-            last: u64::from(dst),
-        },
-        GrFault::Read => Line::Plain {
-            text: "fault: read",
-        },
+        GrFault::Ends { section, got } => Line::Middle(text_of_end(section), got, " bytes"),
+        GrFault::Version(version) => Line::Number("fault: version", version),
+        GrFault::EdgeSize(size) => Line::Number("fault: edge size", size),
+        GrFault::Nodes(nodes) => Line::Number("fault: nodes", nodes),
+        GrFault::Edges(edges) => Line::Number("fault: edges", edges),
+        GrFault::IndexFalls(node) => Line::Middle("fault: index ", u64::from(node), " falls"),
+        GrFault::IndexEnds { got, want } => Line::Both("fault: index ends at ", got, " of", want),
+        GrFault::Destination { edge, dst } => {
+            Line::Both("fault: edge ", u64::from(edge), " goes to", u64::from(dst))
+        }
+        GrFault::Read => Line::Plain("fault: read"),
         GrFault::Memory => return None,
     };
     Some(line)

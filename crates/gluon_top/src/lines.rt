@@ -46,19 +46,14 @@ pub(crate) fn write_line<K: Sink>(sink: &mut K, line: Line) -> Result<(), SinkFa
     ensures prefix { OnErr result (GainsPrefix (K.held sink.old) (K.held sink.new) (line_text line)) }
 {
     match line {
-        Line::Plain { text } => write_words(sink, text, &[]),
-        Line::Number { text, number } => write_words(sink, text, &[number]),
-        Line::Middle {
-            before,
-            number,
-            after,
-        } => write_after_number(sink, before, number, after, &[]),
-        Line::Both {
-            before,
-            number,
-            after,
-            last,
-        } => { write_after_number(sink, before, number, after, &[last]) }
+        Line::Plain(text) => write_words(sink, text, &[]),
+        Line::Number(text, number) => write_words(sink, text, &[number]),
+        Line::Middle(before, number, after) => {
+            write_after_number(sink, before, number, after, &[])
+        }
+        Line::Both(before, number, after, last) => {
+            write_after_number(sink, before, number, after, &[last])
+        }
     }
 }
 

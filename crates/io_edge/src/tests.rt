@@ -32,19 +32,24 @@ impl Read for FlakyReader {
     }
 }
 
-// Its second call fails, its third takes nothing, and the others take at most 2 bytes.
+// Its second call fails, its third takes nothing, and the others take at most 2 bytes, which it keeps.
 #[derive(Drop)]
-struct FlakyWriter {
+struct FlakyWriter<'a> {
     calls: usize,
+    taken: &'a mut Vec<u8>,
 }
 
-impl Write for FlakyWriter {
+impl Write for FlakyWriter<'_> {
     fn write(&mut self, buf: &[u8]) -> std::io::Result<usize> {
         self.calls = self.calls.saturating_add(1);
         match self.calls {
             2 => Err(Error::from(ErrorKind::BrokenPipe)),
             3 => Ok(0),
-            _ => Ok(buf.len().min(2)),
+            _ => {
+                let count = buf.len().min(2);
+                self.taken.extend_from_slice(&buf[..count])?;
+                Ok(count)
+            }
         }
     }
 
@@ -64,12 +69,18 @@ fn std_source_passes_bytes_on_and_reports_an_error(rt: HostRuntime) {
 }
 
 #[test]
-fn std_sink_takes_an_error_and_an_empty_write_for_faults(rt: HostRuntime) {
-    let mut sink = StdSink::new(FlakyWriter { calls: 0 });
+fn std_sink_passes_bytes_on_and_takes_an_error_and_an_empty_write_for_faults(rt: HostRuntime) {
+    let mut taken = Vec::new(rt.alloc());
+    let mut sink = StdSink::new(FlakyWriter {
+        calls: 0,
+        taken: &mut taken,
+    });
     assert_eq!(rt; write_whole(&mut sink, b"ab"), Ok(()));
     assert_eq!(rt; write_whole(&mut sink, b"ab"), Err(SinkFault));
     assert_eq!(rt; write_whole(&mut sink, b"ab"), Err(SinkFault));
-    assert_eq!(rt; write_whole(&mut sink, b"abcde"), Ok(()));
+    assert_eq!(rt; write_whole(&mut sink, b"cdefg"), Ok(()));
+    drop(sink);
+    assert_eq!(rt; taken.as_slice(), b"abcdefg".as_slice());
 }
 
 #[test]
