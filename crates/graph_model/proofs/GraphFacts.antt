@@ -5,7 +5,7 @@ use Rattle.std.proofs.lemmas.Option.{slice_get_within, get_or_from_slice_get, sa
 use Rattle.std.proofs.lemmas.List.{get_or-map, length-map}
 use Rattle.graph_model.specs.Graph.{IsBySource}
 use Rattle.graph_model.specs.declared.edge.Edge.{Edge}
-use Rattle.graph_model.proofs.Places.{All-at, slice_get_push_cases}
+use Rattle.list_laws.proofs.Places.{All-at, slice_get_push_cases}
 
 -- sources that do not fall, as std says it, are in order
 pub IsBySource-from_non_decreasing_by : (edges : List Edge) → IsNonDecreasingBy (λ edge. edge.src) edges → IsBySource edges

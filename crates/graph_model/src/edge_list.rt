@@ -1,5 +1,5 @@
 //! A whole graph, in memory.
-ghost use Rattle.std.specs.Prelude.{◌≡◌, ℕ};
+ghost use Rattle.std.specs.Prelude.{◌≡◌};
 
 use crate::edge::Edge;
 use std::marker::Model;

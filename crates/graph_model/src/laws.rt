@@ -1,5 +1,14 @@
 //! Laws of walks and of the least that they give. Each function does nothing: its contract is the law.
+ghost use Rattle.std.specs.Prelude.{◌≡◌};
+ghost use Rattle.graph_model.specs.declared.edge_list.TheConstants.{MAX_NODES, MAX_EDGES};
+ghost use Rattle.graph_model.specs.Graph.{most_nodes, most_edges};
 ghost use Rattle.graph_model.specs.Laws.{WalksJoin, WalksCut, WalksEndByArc, LevelsStep, LevelsGrow, LevelsEnd, LeastIsUnique, WalksShorten, LeastIsWithinNodes};
+
+/// The limits that code compares with are those of every graph.
+pub fn limits_hold()
+    ensures nodes { MAX_NODES ≡ most_nodes }
+    ensures edges { MAX_EDGES ≡ most_edges }
+{}
 
 /// Two walks join where the one ends and the other starts.
 pub fn walks_join()

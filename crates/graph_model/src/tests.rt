@@ -1,7 +1,7 @@
 //! Each call once.
 use crate::{
     Edge, EdgeList, Way, least_is_unique, least_is_within_nodes, levels_end, levels_grow,
-    levels_step, walks_cut, walks_end_by_arc, walks_join, walks_shorten,
+    levels_step, limits_hold, walks_cut, walks_end_by_arc, walks_join, walks_shorten,
 };
 use std::test::Fail;
 
@@ -27,6 +27,7 @@ fn ways_differ(rt: HostRuntime) {
 
 #[test]
 fn laws_return() {
+    limits_hold();
     walks_join();
     walks_cut();
     walks_end_by_arc();

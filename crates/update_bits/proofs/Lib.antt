@@ -1,1 +1,3 @@
-pub mod Members
+pub mod Held
+pub mod Filled
+pub mod FirstBits

@@ -1,1 +1,1 @@
-pub mod BitSet
+pub mod Words

@@ -1,32 +1,40 @@
-ghost use Rattle.std.specs.Prelude.{◌≡◌, ◌<◌, ◌≤◌, length, IfOk};
-ghost use Rattle.update_bits.specs.BitSet.{
+//! A set of numbers below a length.
+ghost use Rattle.std.specs.Prelude.{◌≡◌, ◌<◌, ◌≤◌, ◌^◌, length, drop, slice_get, All, Some, IfOk, IfSome};
+ghost use Rattle.list_laws.specs.Members.{
   has_member,
   no_members,
   all_members,
   with_member,
   without_member,
+  without_all,
+  members,
+  members_from,
   count_of,
   IsNextMember,
 };
 
-use crate::places::{count_places, next_place};
+use crate::words::{
+    clear_bit, count_bits, fill_bits, next_bit, set_bit, test_bit, word_of_nth, words_for,
+};
 use std::alloc::{AllocError, Global};
 use std::marker::Model;
 
 /// A set of numbers below a length that stays as it was made.
 #[derive(Drop)]
 pub struct UpdateBits {
-    places: Vec<bool>,
+    count: u32,
+    words: Vec<u64>,
 }
 
 impl Model for UpdateBits {
-    ghost use Rattle.std.specs.Prelude.{◌<◌, ◌^◌, Bool, List, vec_len};
+    ghost use Rattle.std.specs.Prelude.{Bool, List};
+    ghost use Rattle.update_bits.specs.Words.{set_in, AreWords};
 
     ghost Value = { List Bool };
 
-    ghost view = { λ s. s.places.items };
+    ghost view = { λ s. set_in s.count s.words.items };
 
-    ghost invariant = { λ s. vec_len s.places < 2 ^ 32 };
+    ghost invariant = { λ s. AreWords s.count s.words.items };
 }
 
 impl UpdateBits {
@@ -35,7 +43,8 @@ impl UpdateBits {
         ensures { IfOk result (λ bits. bits ≡ no_members n) }
     {
         Ok(UpdateBits {
-            places: vec![in alloc; false; n as usize]?,
+            count: n,
+            words: vec![in alloc; 0; words_for(n)]?,
         })
     }
 
@@ -43,14 +52,14 @@ impl UpdateBits {
     pub fn len(&self) -> u32
         ensures { result ≡ length self.now }
     {
-        self.places.len() as u32
+        self.count
     }
 
     /// How many members there are.
     pub fn count(&self) -> u32
         ensures { result ≡ count_of self.now }
     {
-        count_places(&self.places)
+        count_bits(&self.words) as u32
     }
 
     /// Whether `i`, a number below the length, is a member.
@@ -58,7 +67,7 @@ impl UpdateBits {
         requires { i < length self.now }
         ensures { result ≡ has_member self.now i }
     {
-        self.places[i as usize]
+        test_bit(&self.words, i)
     }
 
     /// Makes `i`, a number below the length, a member. The other numbers stay as they are.
@@ -66,7 +75,7 @@ impl UpdateBits {
         requires { i < length self.old }
         ensures { self.new ≡ with_member self.old i }
     {
-        self.places[i as usize] = true;
+        set_bit(&mut self.words, i);
     }
 
     /// Takes `i`, a number below the length, out of the set. The other numbers stay as they are.
@@ -74,30 +83,70 @@ impl UpdateBits {
         requires { i < length self.old }
         ensures { self.new ≡ without_member self.old i }
     {
-        self.places[i as usize] = false;
+        clear_bit(&mut self.words, i);
+    }
+
+    /// Takes each of these numbers below the length out of the set. The other numbers stay as they are.
+    pub fn clear_each(&mut self, numbers: &[u32])
+        requires { All (λ i. i < length self.old) numbers.now }
+        ensures { self.new ≡ without_all self.old numbers.now }
+    {
+        for number in numbers {
+            self.clear(*number);
+        }
     }
 
     /// Makes each number below the length a member.
     pub fn set_all(&mut self)
         ensures { self.new ≡ all_members (length self.old) }
     {
-        self.places.fill(true);
+        fill_bits(&mut self.words, self.count);
     }
 
     /// Takes every number out of the set.
     pub fn clear_all(&mut self)
         ensures { self.new ≡ no_members (length self.old) }
     {
-        self.places.fill(false);
+        self.words.fill(0);
     }
 
     /// The least member that is at least `i`, and None exactly where there is none. `i` is at most
     /// the length.
     pub fn next_from(&self, i: u32) -> Option<u32>
         requires { i ≤ length self.now }
-        ensures { IsNextMember self.now i result }
+        ensures next { IsNextMember self.now i result }
+        ensures below { IfSome result (λ m. m < length self.now) }
     {
-        next_place(&self.places, i)
+        next_bit(&self.words, i)
+    }
+
+    /// The member at `place`, counted from 0 among the members by rising number. `place` is below their count.
+    pub fn nth(&self, place: u32) -> u32
+        requires { place < count_of self.now }
+        ensures { slice_get (members self.now) place ≡ Some result }
+    {
+        let (word, left) = word_of_nth(&self.words, place);
+        self.nth_since(word * 64, left)
+    }
+
+    /// The member at `place`, counted from 0 among those that are at least `start`.
+    fn nth_since(&self, start: u32, place: u32) -> u32
+        requires short { length self.now < 2 ^ 32 }
+        requires start { start ≤ length self.now }
+        requires place { place < length (members_from start (drop start self.now)) }
+        ensures { slice_get (members_from start (drop start self.now)) place ≡ Some result }
+    {
+        let mut from = start;
+        for _passed in 0..place {
+            match self.next_from(from) {
+                Some(member) => from = member + 1,
+                None => unreachable!(),
+            }
+        }
+        match self.next_from(from) {
+            Some(member) => member,
+            None => unreachable!(),
+        }
     }
 }
 
@@ -116,6 +165,8 @@ mod tests {
             (bits.count(), bits.test(1), bits.test(2)),
             (2, true, false)
         );
+        assert_eq!(rt; bits.count(), 2);
+        assert_eq!(rt; (bits.nth(0), bits.nth(1)), (1, 4));
         for (start, want) in [
             (0, Some(1)),
             (1, Some(1)),
@@ -132,6 +183,31 @@ mod tests {
         assert_eq!(rt; (bits.count(), bits.next_from(5)), (5, None));
         bits.clear_all();
         assert_eq!(rt; (bits.len(), bits.count(), bits.next_from(0)), (5, 0, None));
+        Ok(())
+    }
+
+    #[test]
+    fn lengths_around_words_are_full_and_empty(rt: HostRuntime) -> Result<(), Fail> {
+        for length in [0, 1, 63, 64, 65, 128] {
+            let mut bits = UpdateBits::new(rt.alloc(), length)?;
+            bits.set_all();
+            assert_eq!(rt; bits.len(), length);
+            assert_eq!(rt;
+                (bits.count(), bits.next_from(length)),
+                (length, None),
+                "length {length}"
+            );
+            let last = length.checked_sub(1);
+            if let Some(last) = last {
+                assert!(rt; last < bits.count());
+                assert_eq!(rt; bits.nth(last), last, "length {length}");
+                for number in 0..last {
+                    assert!(rt; number < bits.len());
+                    bits.clear_each(&[number]);
+                }
+            }
+            assert_eq!(rt; bits.next_from(0), last, "length {length}");
+        }
         Ok(())
     }
 }

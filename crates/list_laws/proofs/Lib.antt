@@ -1,0 +1,13 @@
+pub mod Rising
+pub mod Among
+pub mod Chosen
+pub mod Members
+pub mod Bits
+pub mod LittleEndian
+pub mod WholeNumbers
+pub mod Places
+pub mod Words
+pub mod Fronts
+pub mod Ranges
+pub mod PackedBits
+pub mod Since

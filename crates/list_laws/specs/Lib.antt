@@ -1,0 +1,5 @@
+pub mod Rising
+pub mod Among
+pub mod Members
+pub mod Bits
+pub mod LittleEndian

@@ -1,0 +1,7 @@
+use Rattle.std.proofs.Common.{ap, ◌∙◌}
+use Rattle.update_bits.specs.Words.{set_in}
+use Rattle.update_bits.proofs.Held.{set_in-none}
+use Rattle.update_bits.proofs.update_bits.UpdateBits.new.Goals as goal
+
+pub returns : goal.returns
+returns c = ap (set_in c.args.n) (c.in_ok-vec.ensures.items_if_clones_equal (λ y same. same)) ∙ set_in-none c.args.n _ c.words_for.ensures

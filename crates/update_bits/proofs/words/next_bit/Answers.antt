@@ -1,0 +1,28 @@
+use Rattle.std.proofs.Common.{◌≡◌, ◌*◌, ◌/◌, arith, inl, inr}
+use Rattle.std.proofs.lemmas.Bool.{cases_lt}
+use Rattle.update_bits.proofs.FirstBits.{first_from, first_later, none_from, none_in_word}
+use Rattle.update_bits.proofs.words.next_bit.Goals as goal
+
+pub overflow_add-result : goal.overflow_add-result
+overflow_add-result c =
+    let found = first_from c.args.words.now c.args.i (omega (arith, c.type_inv.words (c.args.i / 64))) (omega arith) in
+    omega (arith, found.0)
+
+pub returns-then-rest-ne0 : goal.returns-then-rest-ne0
+returns-then-rest-ne0 c = (first_from c.args.words.now c.args.i (omega (arith, c.type_inv.words (c.args.i / 64))) (omega arith)).1
+
+pub loop-later-init : goal.loop-later-init
+loop-later-init c k since before = none_from c.args.words.now c.args.i k (omega arith) since (omega arith)
+
+pub loop-later-preserved : goal.loop-later-preserved
+loop-later-preserved c k since before =
+    elim (cases_lt k (c.loop-later.later * 64)) [
+      | inl low ↦ c.loop-later.invariant k since low
+      | inr high ↦
+          let place : k / 64 ≡ c.loop-later.later = omega arith in
+          none_in_word c.args.words.now k (rw place (omega arith))
+    ]
+
+pub returns-then-words-later-ne0 : goal.returns-then-words-later-ne0
+returns-then-words-later-ne0 c =
+    (first_later c.args.words.now c.args.i c.loop-later.later (omega (arith, c.type_inv.words c.loop-later.later)) (omega arith) (omega arith) c.loop-later.invariant).1

@@ -1,0 +1,23 @@
+-- A set of numbers below a length as words of 64 bits: number i is bit i mod 64 of word i / 64.
+use Rattle.std.specs.Prelude.{◌≡◌, ℕ, ◌+◌, ◌/◌, ◌^◌, ◌<◌, ◌≤◌, Bool, false, List, length, take, Option, MatchOption, true}
+use Rattle.list_laws.specs.Bits.{unpacked, bit_in}
+
+-- the set that the words hold
+abbrev pub set_in : (count : ℕ) (words : List ℕ) → List Bool
+set_in count words = take count (unpacked 64 words)
+
+-- the words are as many as the numbers below `count` need, and no bit past these is set
+pub record AreWords (count : ℕ) (words : List ℕ) : Type 0 where
+  pub short : count < 2 ^ 32
+  pub enough : length words ≡ (count + 63) / 64
+  pub spare : (i : ℕ) → count ≤ i → bit_in words i ≡ false
+
+-- the first bit that is set, from bit i on
+pub record IsFirstBit (words : List ℕ) (i m : ℕ) : Type 0 where
+  pub set : bit_in words m ≡ true
+  pub since : i ≤ m
+  pub first : (k : ℕ) → i ≤ k → k < m → bit_in words k ≡ false
+
+-- the first bit that is set, from bit i on, or None exactly where there is none
+abbrev pub IsNextBit : List ℕ → ℕ → Option ℕ → Type 0
+IsNextBit words i next = MatchOption next ((k : ℕ) → i ≤ k → bit_in words k ≡ false) (λ m. IsFirstBit words i m)

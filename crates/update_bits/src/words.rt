@@ -1,0 +1,105 @@
+//! The bits of words of 64 bits.
+ghost use Rattle.std.specs.Prelude.{◌≡◌, ◌≢◌, ℕ, ◌+◌, ◌*◌, ◌/◌, ◌<◌, ◌≤◌, ◌^◌, true, false, length, take, sum_by, count_by, count_ones, nat_lt};
+ghost use Rattle.list_laws.specs.Bits.{unpacked, bit_in};
+ghost use Rattle.update_bits.specs.Words.{IsNextBit};
+
+/// How many words hold a bit for each of `count` numbers.
+pub(crate) fn words_for(count: u32) -> usize
+    ensures { result ≡ (count + 63) / 64 }
+{
+    count.div_ceil(64) as usize
+}
+
+/// Whether bit `i` is set.
+pub(crate) fn test_bit(words: &[u64], i: u32) -> bool
+    requires { i / 64 < length words.now }
+    ensures { result ≡ bit_in words.now i }
+{
+    (words[(i / 64) as usize] >> (i % 64)) & 1 == 1
+}
+
+/// Sets bit `i`.
+pub(crate) fn set_bit(words: &mut [u64], i: u32)
+    requires { i / 64 < length words.old }
+    ensures set { bit_in words.new i ≡ true }
+    ensures others { (k : ℕ) → k ≢ i → bit_in words.new k ≡ bit_in words.old k }
+{
+    words[(i / 64) as usize] |= 1 << (i % 64);
+}
+
+/// Clears bit `i`.
+pub(crate) fn clear_bit(words: &mut [u64], i: u32)
+    requires { i / 64 < length words.old }
+    ensures cleared { bit_in words.new i ≡ false }
+    ensures others { (k : ℕ) → k ≢ i → bit_in words.new k ≡ bit_in words.old k }
+{
+    words[(i / 64) as usize] &= !(1 << (i % 64));
+}
+
+/// Sets the first `count` bits and clears the others.
+pub(crate) fn fill_bits(words: &mut [u64], count: u32)
+    requires { length words.old ≡ (count + 63) / 64 }
+    ensures { (k : ℕ) → bit_in words.new k ≡ nat_lt k count }
+{
+    words.fill(u64::MAX);
+    let last = count % 64;
+    if last != 0 {
+        words[(count / 64) as usize] = (1 << last) - 1;
+    }
+}
+
+/// The sum of the bits that are set in each word.
+fn sum_ones(words: &[u64]) -> u64
+    requires { length words.now ≤ 2 ^ 26 }
+    ensures { result ≡ sum_by count_ones words.now }
+{
+    words.iter().map(|word| word.count_ones() as u64).sum()
+}
+
+/// How many bits are set.
+pub(crate) fn count_bits(words: &[u64]) -> u64
+    requires { length words.now ≤ 2 ^ 26 }
+    ensures { result ≡ count_by (λ b. b) (unpacked 64 words.now) }
+{
+    sum_ones(words)
+}
+
+/// The first bit that is set, from bit `i` on.
+pub(crate) fn next_bit(words: &[u64], i: u32) -> Option<u32>
+    requires { length words.now ≤ 2 ^ 26 }
+    ensures { IsNextBit words.now i result }
+{
+    let place = (i / 64) as usize;
+    if place >= words.len() {
+        return None;
+    }
+    let rest = words[place] >> (i % 64);
+    if rest != 0 {
+        return Some(i + rest.trailing_zeros());
+    }
+    for later in place + 1..words.len() {
+        if words[later] != 0 {
+            return Some(later as u32 * 64 + words[later].trailing_zeros());
+        }
+    }
+    None
+}
+
+/// The number of the word in which the bit stands that is at `place`, counted from 0 among those that are
+/// set, and how many of these come before it in that word.
+pub(crate) fn word_of_nth(words: &[u64], place: u32) -> (u32, u32)
+    requires short { length words.now ≤ 2 ^ 26 }
+    requires within { place < count_by (λ b. b) (unpacked 64 words.now) }
+    ensures word { result.0 < length words.now }
+    ensures before { count_by (λ b. b) (unpacked 64 (take result.0 words.now)) + result.1 ≡ place }
+{
+    let mut left = place;
+    for (number, word) in words.iter().enumerate() {
+        let ones = word.count_ones();
+        if left < ones {
+            return (number as u32, left);
+        }
+        left -= ones;
+    }
+    unreachable!()
+}
