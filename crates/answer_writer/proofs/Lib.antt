@@ -1,2 +1,1 @@
 mod Spaced
-mod Results

@@ -1,7 +1,6 @@
 //! The line of a vertex's answer.
-ghost use Rattle.std.specs.Prelude.{◌≡◌, ◌≤◌, length, drop, OnOk, OnErr};
-ghost use Rattle.io_edge.specs.Faults.{Rose};
-ghost use Rattle.io_edge.specs.Bytes.{Gains, GainsPrefix};
+ghost use Rattle.std.specs.Prelude.{◌≡◌, ◌≤◌, length, drop};
+ghost use Rattle.io_edge.specs.Writing.{Wrote};
 ghost use Rattle.answer_writer.specs.Lines.{answer_line};
 
 use super::digits::{put_byte, put_value};
@@ -13,10 +12,7 @@ const LINE_BYTES: usize = 32;
 
 /// Writes the line of the vertex `v`: its number, a space, and its value or `-` for none.
 pub fn write_answer<K: Sink>(sink: &mut K, v: u32, value: Option<u64>) -> Result<(), SinkFault>
-    ensures whole { OnOk result (Gains (K.held sink.old) (K.held sink.new) (answer_line v value)) }
-    ensures quiet { OnOk result (K.faults sink.new ≡ K.faults sink.old) }
-    ensures rose { OnErr result (Rose (K.faults sink.old) (K.faults sink.new)) }
-    ensures prefix { OnErr result (GainsPrefix (K.held sink.old) (K.held sink.new) (answer_line v value)) }
+    ensures written { Wrote K.Sink result sink.old sink.new (answer_line v value) }
 {
     let mut line = [0; LINE_BYTES];
     let start = put_answer(&mut line, v, value);

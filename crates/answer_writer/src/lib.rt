@@ -6,9 +6,11 @@
 
 mod answer;
 mod digits;
+mod report;
 #[cfg(test)]
 mod tests;
 mod words;
 
 pub use answer::write_answer;
+pub use report::{Report, write_report};
 pub use words::{write_number, write_words};

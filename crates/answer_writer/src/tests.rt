@@ -53,3 +53,23 @@ fn a_sink_that_fails_holds_a_front_of_the_line(rt: HostRuntime) -> Result<(), Fa
     assert_eq!(rt; sink.held(), b"12 34567nodes 7 1234".as_slice());
     Ok(())
 }
+
+#[test]
+fn reports_have_four_counts_and_three_classes(rt: HostRuntime) -> Result<(), Fail> {
+    let alloc: Global = rt.alloc();
+    let mut sink = MemorySink::new(alloc, 200, 50, Vec::new(alloc))?;
+    let report = Report {
+        rounds: 3,
+        packets: 0,
+        bytes: 340_282_366_920_938_463_463_374_607_431_768_211_455,
+        mirrors: 2,
+        no_out: true,
+        no_in: false,
+        no_both: true,
+    };
+    assert_eq!(rt; write_report(&mut sink, &report), Ok(()));
+    let want =
+        b"rounds 3\npackets 0\nbytes 340282366920938463463374607431768211455\nmirrors 2\nno-out yes\nno-in no\nno-both yes\n";
+    assert_eq!(rt; sink.held(), want.as_slice());
+    Ok(())
+}

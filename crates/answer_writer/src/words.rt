@@ -1,7 +1,6 @@
 //! A line of words and numbers, and a number alone.
-ghost use Rattle.std.specs.Prelude.{◌≡◌, ◌≤◌, length, drop, OnOk, OnErr, decimal};
-ghost use Rattle.io_edge.specs.Faults.{Rose};
-ghost use Rattle.io_edge.specs.Bytes.{Gains, GainsPrefix};
+ghost use Rattle.std.specs.Prelude.{◌≡◌, ◌≤◌, length, drop, decimal};
+ghost use Rattle.io_edge.specs.Writing.{Wrote};
 ghost use Rattle.answer_writer.specs.Lines.{spaced_number, spaced_numbers, words_line};
 
 use super::digits::{
@@ -22,10 +21,7 @@ const LINE_BYTES: usize = SHORT_TEXT + FEW_NUMBERS * SPACED_BYTES + 1;
 /// Writes a line: the text `first`, and each number after one space. A line of a text of at most 64 bytes and
 /// at most 8 numbers is put together first, and goes out whole where the sink takes it so.
 pub fn write_words<K: Sink>(sink: &mut K, first: &str, numbers: &[u64]) -> Result<(), SinkFault>
-    ensures whole { OnOk result (Gains (K.held sink.old) (K.held sink.new) (words_line first.now numbers.now)) }
-    ensures quiet { OnOk result (K.faults sink.new ≡ K.faults sink.old) }
-    ensures rose { OnErr result (Rose (K.faults sink.old) (K.faults sink.new)) }
-    ensures prefix { OnErr result (GainsPrefix (K.held sink.old) (K.held sink.new) (words_line first.now numbers.now)) }
+    ensures written { Wrote K.Sink result sink.old sink.new (words_line first.now numbers.now) }
 {
     if first.len() <= SHORT_TEXT && numbers.len() <= FEW_NUMBERS {
         return write_short_line(sink, first.as_bytes(), numbers);
@@ -36,10 +32,7 @@ pub fn write_words<K: Sink>(sink: &mut K, first: &str, numbers: &[u64]) -> Resul
 /// Writes a line that fits a small piece of memory, by one write where the sink takes it whole.
 fn write_short_line<K: Sink>(sink: &mut K, first: &[u8], numbers: &[u64]) -> Result<(), SinkFault>
     requires { (length first.now ≤ SHORT_TEXT) × (length numbers.now ≤ FEW_NUMBERS) }
-    ensures whole { OnOk result (Gains (K.held sink.old) (K.held sink.new) (words_line first.now numbers.now)) }
-    ensures quiet { OnOk result (K.faults sink.new ≡ K.faults sink.old) }
-    ensures rose { OnErr result (Rose (K.faults sink.old) (K.faults sink.new)) }
-    ensures prefix { OnErr result (GainsPrefix (K.held sink.old) (K.held sink.new) (words_line first.now numbers.now)) }
+    ensures written { Wrote K.Sink result sink.old sink.new (words_line first.now numbers.now) }
 {
     let mut line = [0; LINE_BYTES];
     let start = put_words(&mut line, first, numbers);
@@ -60,10 +53,7 @@ fn put_words(line: &mut [u8], first: &[u8], numbers: &[u64]) -> usize
 
 /// Writes a line of any length, number by number.
 fn write_long_line<K: Sink>(sink: &mut K, first: &[u8], numbers: &[u64]) -> Result<(), SinkFault>
-    ensures whole { OnOk result (Gains (K.held sink.old) (K.held sink.new) (words_line first.now numbers.now)) }
-    ensures quiet { OnOk result (K.faults sink.new ≡ K.faults sink.old) }
-    ensures rose { OnErr result (Rose (K.faults sink.old) (K.faults sink.new)) }
-    ensures prefix { OnErr result (GainsPrefix (K.held sink.old) (K.held sink.new) (words_line first.now numbers.now)) }
+    ensures written { Wrote K.Sink result sink.old sink.new (words_line first.now numbers.now) }
 {
     write_whole(sink, first)?;
     write_spaced_numbers(sink, numbers)?;
@@ -72,10 +62,7 @@ fn write_long_line<K: Sink>(sink: &mut K, first: &[u8], numbers: &[u64]) -> Resu
 
 /// Writes the decimal digits of `n`, and nothing else.
 pub fn write_number<K: Sink>(sink: &mut K, n: u64) -> Result<(), SinkFault>
-    ensures whole { OnOk result (Gains (K.held sink.old) (K.held sink.new) (decimal n)) }
-    ensures quiet { OnOk result (K.faults sink.new ≡ K.faults sink.old) }
-    ensures rose { OnErr result (Rose (K.faults sink.old) (K.faults sink.new)) }
-    ensures prefix { OnErr result (GainsPrefix (K.held sink.old) (K.held sink.new) (decimal n)) }
+    ensures written { Wrote K.Sink result sink.old sink.new (decimal n) }
 {
     let mut digits = [0; U64_DIGITS];
     let start = put_number(&mut digits, U64_DIGITS, n);
@@ -84,10 +71,7 @@ pub fn write_number<K: Sink>(sink: &mut K, n: u64) -> Result<(), SinkFault>
 
 /// Writes each number after one space.
 fn write_spaced_numbers<K: Sink>(sink: &mut K, numbers: &[u64]) -> Result<(), SinkFault>
-    ensures whole { OnOk result (Gains (K.held sink.old) (K.held sink.new) (spaced_numbers numbers.now)) }
-    ensures quiet { OnOk result (K.faults sink.new ≡ K.faults sink.old) }
-    ensures rose { OnErr result (Rose (K.faults sink.old) (K.faults sink.new)) }
-    ensures prefix { OnErr result (GainsPrefix (K.held sink.old) (K.held sink.new) (spaced_numbers numbers.now)) }
+    ensures written { Wrote K.Sink result sink.old sink.new (spaced_numbers numbers.now) }
 {
     for n in numbers {
         write_spaced_number(sink, *n)?;
@@ -97,10 +81,7 @@ fn write_spaced_numbers<K: Sink>(sink: &mut K, numbers: &[u64]) -> Result<(), Si
 
 /// Writes a space, and then the number.
 fn write_spaced_number<K: Sink>(sink: &mut K, n: u64) -> Result<(), SinkFault>
-    ensures whole { OnOk result (Gains (K.held sink.old) (K.held sink.new) (spaced_number n)) }
-    ensures quiet { OnOk result (K.faults sink.new ≡ K.faults sink.old) }
-    ensures rose { OnErr result (Rose (K.faults sink.old) (K.faults sink.new)) }
-    ensures prefix { OnErr result (GainsPrefix (K.held sink.old) (K.held sink.new) (spaced_number n)) }
+    ensures written { Wrote K.Sink result sink.old sink.new (spaced_number n) }
 {
     let mut text = [0; SPACED_BYTES];
     let start = put_spaced_number(&mut text, SPACED_BYTES, n);

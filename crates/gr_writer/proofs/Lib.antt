@@ -1,6 +1,4 @@
 pub mod Ends
-pub mod Moves
-pub mod Numbers
+pub mod Parts
 pub mod Sources
-pub mod Reading
 pub mod Again

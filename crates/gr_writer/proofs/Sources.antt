@@ -3,38 +3,28 @@ use Rattle.std.proofs.Common.{◌≡◌, ℕ, zero, suc, ◌+◌, ◌-◌, ◌<�
 use Rattle.std.specs.Prelude.{All, slice_get}
 use Rattle.std.specs.List.{range_with_len}
 use Rattle.std.proofs.lemmas.Bool.{cases_lt, le-ltb}
+use Rattle.std.proofs.lemmas.List.Elements.{All-head, All-tail}
+use Rattle.list_laws.specs.Rising.{NeverFalls}
+use Rattle.list_laws.proofs.Rising.{NeverFalls-lower}
+use Rattle.list_laws.proofs.Ranges.{map-range_same}
 use Rattle.graph_model.specs.declared.edge.Edge.{Edge}
 use Rattle.graph_model.specs.Graph.{IsBySource}
-use Rattle.gr_reader.specs.File.{sources, first_fall, last_entry}
+use Rattle.gr_reader.specs.File.{sources, entry_fault, last_entry}
+use Rattle.gr_reader.proofs.GraphLaws.{source}
 use Rattle.gr_writer.specs.File.{end_of}
 use Rattle.gr_writer.proofs.Ends.{IsBySource-tail, IsBySource-head, end_of-cons_yes, end_of-cons_no}
-use Rattle.gr_writer.proofs.Numbers.{All-first, All-others}
-
--- the source of an edge
-abbrev pub source : Edge → ℕ
-source edge = edge.src
-
--- no source is below `low`, and sources do not fall
-abbrev pub Rises : ℕ → List Edge → Type 0
-Rises low [] = Unit {0}
-Rises low (edge ∷ edges) = (low ≤ edge.src) × Rises edge.src edges
-
--- from a lower bound too
-pub Rises-lower : (low high : ℕ) (edges : List Edge) → low ≤ high → Rises high edges → Rises low edges
-Rises-lower low high [] le rises = tt
-Rises-lower low high (edge ∷ edges) le rises = (omega (arith, rises.0), rises.1)
 
 -- edges by source
-pub Rises-from_sorted : (low : ℕ) (edges : List Edge) → IsBySource edges → ((i : ℕ) (a : Edge) → slice_get edges i ≡ Some a → low ≤ a.src) → Rises low edges
-Rises-from_sorted low [] sorted above = tt
-Rises-from_sorted low (edge ∷ edges) sorted above =
-    (above zero edge refl, Rises-from_sorted edge.src edges (IsBySource-tail edge edges sorted) (IsBySource-head edge edges sorted))
+pub NeverFalls-from_sorted : (low : ℕ) (edges : List Edge) → IsBySource edges → ((i : ℕ) (a : Edge) → slice_get edges i ≡ Some a → low ≤ a.src) → NeverFalls low (map source edges)
+NeverFalls-from_sorted low [] sorted above = tt
+NeverFalls-from_sorted low (edge ∷ edges) sorted above =
+    (above zero edge refl, NeverFalls-from_sorted edge.src edges (IsBySource-tail edge edges sorted) (IsBySource-head edge edges sorted))
 
 -- no range ends before the first edge where each edge starts past the node
-pub end_of-past : (v : ℕ) (edges : List Edge) → Rises (v + 1) edges → end_of edges v ≡ 0
+pub end_of-past : (v : ℕ) (edges : List Edge) → NeverFalls (v + 1) (map source edges) → end_of edges v ≡ 0
 end_of-past v [] rises = refl
 end_of-past v (edge ∷ edges) rises =
-    omega (arith, rises.0, end_of-past v edges (Rises-lower (v + 1) edge.src edges rises.0 rises.1), end_of-cons_no edge edges v (omega (arith, rises.0)))
+    omega (arith, rises.0, end_of-past v edges (NeverFalls-lower (v + 1) edge.src (map source edges) rises.0 rises.1), end_of-cons_no edge edges v (omega (arith, rises.0)))
 
 -- edges from this node on, split into those of this node and the later ones
 pub record Split (node bound : ℕ) (edges : List Edge) : Type 0 where
@@ -43,10 +33,10 @@ pub record Split (node bound : ℕ) (edges : List Edge) : Type 0 where
   pub is : end_of edges node ≡ count
   pub gives : map source edges ≡ replicate count node ++ map source later
   pub ends : (v : ℕ) → node ≤ v → end_of edges v ≡ count + end_of later v
-  pub rises : Rises (node + 1) later
+  pub rises : NeverFalls (node + 1) (map source later)
   pub within : All (λ (edge : Edge). edge.src < bound) later
 
-pub split_edges : (node bound : ℕ) (edges : List Edge) → Rises node edges → All (λ (edge : Edge). edge.src < bound) edges → Split node bound edges
+pub split_edges : (node bound : ℕ) (edges : List Edge) → NeverFalls node (map source edges) → All (λ (edge : Edge). edge.src < bound) edges → Split node bound edges
 split_edges node bound [] rises within = record { count = 0; later = []; is = refl; gives = refl; ends = λ v h. refl; rises = tt; within = within }
 split_edges node bound (edge ∷ edges) rises within =
     ⊎_elim
@@ -61,7 +51,7 @@ split_edges node bound (edge ∷ edges) rises within =
     })
     (λ (here : edge.src ≤ node).
     let same : edge.src ≡ node = omega (arith, rises.0) in
-    let rest = split_edges node bound edges (Rises-lower node edge.src edges (omega arith) rises.1) (All-others (λ (e : Edge). e.src < bound) edge edges within) in
+    let rest = split_edges node bound edges (NeverFalls-lower node edge.src (map source edges) (omega arith) rises.1) (All-tail (λ (e : Edge). e.src < bound) edge edges within) in
     record {
       count = suc rest.count;
       later = rest.later;
@@ -73,19 +63,12 @@ split_edges node bound (edge ∷ edges) rises within =
     })
     (cases_lt node edge.src)
 
--- two functions that agree from a number on agree on the numbers from it on
-pub map-range_same : (f g : ℕ → ℕ) (a k : ℕ) → ((v : ℕ) → a ≤ v → f v ≡ g v) → map f (range_with_len a k) ≡ map g (range_with_len a k)
-map-range_same f g a zero same = refl
-map-range_same f g a (suc k) same =
-    let others = map-range_same f g (a + 1) k (λ v h. same v (omega arith)) in
-    ap (λ n. n ∷ map f (range_with_len (a + 1) k)) (same a (omega arith)) ∙ ap (λ l. g a ∷ l) others
-
 -- the sources that the ends from this node on give
-pub sources-ends : (k node before : ℕ) (edges : List Edge) → Rises node edges → All (λ (edge : Edge). edge.src < node + k) edges
+pub sources-ends : (k node before : ℕ) (edges : List Edge) → NeverFalls node (map source edges) → All (λ (edge : Edge). edge.src < node + k) edges
     → sources node before (map (λ v. before + end_of edges v) (range_with_len node k)) ≡ map source edges
 sources-ends zero node before [] rises within = refl
 sources-ends zero node before (edge ∷ edges) rises within =
-    absurd (omega (arith, rises.0, All-first (λ (e : Edge). e.src < node + zero) edge edges within))
+    absurd (omega (arith, rises.0, All-head (λ (e : Edge). e.src < node + zero) edge edges within))
 sources-ends (suc k) node before edges rises within =
     let s = split_edges node (node + suc k) edges rises within in
     let f : ℕ → ℕ = λ v. before + end_of edges v in
@@ -101,10 +84,10 @@ sources-ends (suc k) node before edges rises within =
     ∙ sym s.gives
 
 -- ends do not fall
-pub first_fall-none : (f : ℕ → ℕ) → ((v : ℕ) → f v ≤ f (v + 1)) → (k a place before : ℕ) → before ≤ f a → first_fall place before (map f (range_with_len a k)) ≡ None
-first_fall-none f rises zero a place before le = refl
-first_fall-none f rises (suc k) a place before le =
-    let rest = first_fall-none f rises k (a + 1) (place + 1) (f a) (rises a) in
+pub entry_fault-none : (f : ℕ → ℕ) → ((v : ℕ) → f v ≤ f (v + 1)) → (k a place before : ℕ) → before ≤ f a → entry_fault place before (map f (range_with_len a k)) ≡ None
+entry_fault-none f rises zero a place before le = refl
+entry_fault-none f rises (suc k) a place before le =
+    let rest = entry_fault-none f rises k (a + 1) (place + 1) (f a) (rises a) in
     rw (le-ltb (f a) before le) rest
 
 -- the last of these

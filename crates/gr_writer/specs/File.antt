@@ -1,21 +1,13 @@
 -- The file of a graph: a head, where the edges of each node end, destinations, padding and weights.
 use Rattle.std.specs.Prelude.{◌≡◌, ℕ, ◌%◌, ◌==◌, nat_le, List, [], ◌∷◌, ◌++◌, length, map, count_by, All, ◌⊎◌, if◌then◌else◌}
-use Rattle.std.specs.List.{flat_map, range_with_len}
-use Rattle.std.specs.Int.{w32, w64, to_le_bytes}
+use Rattle.std.specs.List.{range_with_len}
+use Rattle.list_laws.specs.LittleEndian.{le_text}
 use Rattle.graph_model.specs.declared.edge.Edge.{Edge}
 use Rattle.graph_model.specs.Graph.{Graph}
 
--- numbers of four bytes, the lowest byte first
-unfoldable pub words : List ℕ → List ℕ
-words numbers = flat_map (to_le_bytes w32) numbers
-
--- numbers of eight bytes, the lowest byte first
-unfoldable pub long_words : List ℕ → List ℕ
-long_words numbers = flat_map (to_le_bytes w64) numbers
-
 -- version 1, the bytes of a weight, and how many nodes and edges there are
 abbrev pub head_of : ℕ → Graph → List ℕ
-head_of size graph = long_words (1 ∷ size ∷ graph.nodes ∷ length graph.edges ∷ [])
+head_of size graph = le_text 8 (1 ∷ size ∷ graph.nodes ∷ length graph.edges ∷ [])
 
 -- where the range of a node's edges ends: so many edges start at this node or one before it
 abbrev pub end_of : List Edge → ℕ → ℕ
@@ -23,11 +15,11 @@ end_of edges node = count_by (λ edge. nat_le edge.src node) edges
 
 -- where the range of each node ends, for this many nodes
 abbrev pub index_of : ℕ → List Edge → List ℕ
-index_of nodes edges = long_words (map (end_of edges) (range_with_len 0 nodes))
+index_of nodes edges = le_text 8 (map (end_of edges) (range_with_len 0 nodes))
 
 -- where each edge leads
 abbrev pub destinations_of : List Edge → List ℕ
-destinations_of edges = words (map (λ edge. edge.dst) edges)
+destinations_of edges = le_text 4 (map (λ edge. edge.dst) edges)
 
 -- four zero bytes where the number of edges is odd
 abbrev pub padding_of : List Edge → List ℕ
@@ -35,7 +27,7 @@ padding_of edges = if length edges % 2 == 1 then 0 ∷ 0 ∷ 0 ∷ 0 ∷ [] else
 
 -- the weight of each edge, where it has four bytes
 abbrev pub weights_of : ℕ → List Edge → List ℕ
-weights_of size edges = if size == 4 then words (map (λ edge. edge.weight) edges) else []
+weights_of size edges = if size == 4 then le_text 4 (map (λ edge. edge.weight) edges) else []
 
 -- the bytes of the file
 abbrev pub file_of : ℕ → Graph → List ℕ

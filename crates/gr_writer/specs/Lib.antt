@@ -1,4 +1,3 @@
 pub mod Column
 pub mod File
-pub mod Page
 pub mod ReadAgain

@@ -1,14 +1,11 @@
 //! The index of a file.
-ghost use Rattle.std.specs.Prelude.{◌≡◌, ◌≤◌, OnOk, OnErr, ◌++◌};
-ghost use Rattle.io_edge.specs.Faults.{Rose};
-ghost use Rattle.io_edge.specs.Bytes.{GainsPrefix};
+ghost use Rattle.std.specs.Prelude.{◌≡◌, ◌≤◌};
+ghost use Rattle.io_edge.specs.Writing.{Wrote};
 ghost use Rattle.graph_model.specs.Graph.{IsBySource};
 ghost use Rattle.gr_writer.specs.File.{end_of, index_of};
-ghost use Rattle.gr_writer.specs.Page.{Takes};
 
-use crate::page::Page;
 use graph_model::Edge;
-use io_edge::{Sink, SinkFault};
+use io_edge::{Sink, SinkFault, write_whole};
 
 /// Where the range of a node ends, from a place that does not lie behind that.
 fn range_end(edges: &[Edge], start: usize, node: u32) -> usize
@@ -23,25 +20,19 @@ fn range_end(edges: &[Edge], start: usize, node: u32) -> usize
     end
 }
 
-/// Puts where the range of each node ends behind what waits.
-pub(crate) fn put_index<K: Sink>(
+/// Writes where the range of each node ends.
+pub(crate) fn write_index<K: Sink>(
     sink: &mut K,
-    page: &mut Page,
     nodes: u32,
     edges: &[Edge],
 ) -> Result<(), SinkFault>
     requires { IsBySource edges.now }
-    ensures takes { OnOk result
-        (Takes (K.held sink.old) page.old (K.held sink.new) page.new (index_of nodes edges.now)) }
-    ensures quiet { OnOk result (K.faults sink.new ≡ K.faults sink.old) }
-    ensures rose { OnErr result (Rose (K.faults sink.old) (K.faults sink.new)) }
-    ensures prefix { OnErr result
-        (GainsPrefix (K.held sink.old) (K.held sink.new) (page.old ++ index_of nodes edges.now)) }
+    ensures { Wrote K.Sink result sink.old sink.new (index_of nodes edges.now) }
 {
     let mut end = 0;
     for node in 0..nodes {
         end = range_end(edges, end, node);
-        page.put(sink, &(end as u64).to_le_bytes())?;
+        write_whole(sink, &(end as u64).to_le_bytes())?;
     }
     Ok(())
 }

@@ -8,7 +8,6 @@
 
 mod column;
 mod index;
-mod page;
 mod read_again;
 #[cfg(test)]
 mod tests;

@@ -1,32 +1,24 @@
 //! Two files byte by byte, and a write that fails in the middle.
-ghost use Rattle.std.specs.Prelude.{◌≡◌, IfSome};
+ghost use Rattle.std.specs.Prelude.{◌≡◌, [], ◌∷◌, IfOk};
 
 use super::*;
-use graph_model::{Edge, EdgeList, MAX_EDGES, MAX_NODES};
-use io_edge::{MemorySink, SinkFault};
+use gr_reader::read_graph;
+use graph_model::{Edge, EdgeList};
+use io_edge::{MemorySink, PlainSource, SinkFault};
+use std::alloc::{AllocError, Global};
 use std::test::Fail;
 
-/// The graph of these nodes and edges, if they are one.
-fn checked_list(nodes: u32, edges: Vec<Edge>) -> Option<EdgeList>
-    ensures { IfSome result (λ list. list ≡ record { nodes = nodes; edges = edges.items }) }
+/// Two nodes, and an edge from 0 to 1 of weight 1.
+fn one_edge(alloc: Global) -> Result<EdgeList, AllocError>
+    ensures { IfOk result (λ list. list ≡ record { nodes = 2; edges = record { src = 0; dst = 1; weight = 1 } ∷ [] }) }
 {
-    if nodes > MAX_NODES || edges.len() > MAX_EDGES as usize {
-        return None;
-    }
-    let mut source = 0;
-    for edge in &edges {
-        if edge.src < source || edge.src >= nodes || edge.dst >= nodes {
-            return None;
-        }
-        source = edge.src;
-    }
-    Some(EdgeList::from_parts(nodes, edges))
-}
-
-fn edge(src: u32, dst: u32, weight: u32) -> Edge
-    ensures { result ≡ record { src = src; dst = dst; weight = weight } }
-{
-    Edge { src, dst, weight }
+    let edge = Edge {
+        src: 0,
+        dst: 1,
+        weight: 1,
+    };
+    let edges = vec![in alloc; edge]?;
+    Ok(EdgeList::from_parts(2, edges))
 }
 
 /// Three edges with weights, of three nodes.
@@ -44,8 +36,13 @@ const BARE: [u8; 56] = [
 
 #[test]
 fn weights_follow_destinations_and_padding(rt: HostRuntime) -> Result<(), Fail> {
-    let edges = vec![in rt.alloc(); edge(0, 1, 10), edge(0, 2, 1), edge(2, 1, 2)]?;
-    let list = checked_list(3, edges).ok_or("no graph")?;
+    let mut source = PlainSource::new(Vec::from_slice(rt.alloc(), &WEIGHTED)?);
+    let list = read_graph(rt.alloc(), &mut source)?;
+    let edges = [(0, 1, 10), (0, 2, 1), (2, 1, 2)];
+    assert_eq!(rt; list.edges().len(), edges.len());
+    for (found, (src, dst, weight)) in list.edges().iter().zip(edges) {
+        assert_eq!(rt; *found, Edge { src, dst, weight });
+    }
     let mut sink = MemorySink::new(rt.alloc(), 100, 7, Vec::new(rt.alloc()))?;
     assert_eq!(rt; write_graph(&mut sink, &list, 4), Ok(()));
     assert_eq!(rt; sink.held(), WEIGHTED.as_slice());
@@ -55,7 +52,7 @@ fn weights_follow_destinations_and_padding(rt: HostRuntime) -> Result<(), Fail> 
 
 #[test]
 fn padding_stands_without_weights_too(rt: HostRuntime) -> Result<(), Fail> {
-    let list = checked_list(2, vec![in rt.alloc(); edge(0, 1, 1)]?).ok_or("no graph")?;
+    let list = one_edge(rt.alloc())?;
     let mut sink = MemorySink::new(rt.alloc(), 100, 100, Vec::new(rt.alloc()))?;
     assert_eq!(rt; write_graph(&mut sink, &list, 0), Ok(()));
     assert_eq!(rt; sink.held(), BARE.as_slice());
@@ -64,7 +61,7 @@ fn padding_stands_without_weights_too(rt: HostRuntime) -> Result<(), Fail> {
 
 #[test]
 fn a_failed_write_leaves_a_front(rt: HostRuntime) -> Result<(), Fail> {
-    let list = checked_list(2, vec![in rt.alloc(); edge(0, 1, 1)]?).ok_or("no graph")?;
+    let list = one_edge(rt.alloc())?;
     let mut sink = MemorySink::new(rt.alloc(), 100, 20, vec![in rt.alloc(); 1u64]?)?;
     assert_eq!(rt; write_graph(&mut sink, &list, 0), Err(SinkFault));
     assert_eq!(rt; sink.held(), &BARE[..20]);

@@ -1,86 +1,68 @@
 //! The whole file of a graph.
 ghost use Rattle.std.specs.Prelude.{◌≡◌, OnOk, OnErr, ◌++◌};
+ghost use Rattle.list_laws.specs.LittleEndian.{le_text};
 ghost use Rattle.io_edge.specs.Faults.{Rose};
 ghost use Rattle.io_edge.specs.Bytes.{Gains, GainsPrefix};
-ghost use Rattle.gr_writer.specs.File.{long_words, head_of, padding_of, weights_of, file_of, IsWritable};
-ghost use Rattle.gr_writer.specs.Page.{Takes};
+ghost use Rattle.io_edge.specs.Writing.{Wrote};
+ghost use Rattle.gr_writer.specs.File.{head_of, padding_of, weights_of, file_of, IsWritable};
 
-use crate::column::{Column, put_column};
-use crate::index::put_index;
-use crate::page::Page;
+use crate::column::{Column, write_column};
+use crate::index::write_index;
 use graph_model::{Edge, EdgeList};
-use io_edge::{Sink, SinkFault};
+use io_edge::{PagedSink, Sink, SinkFault, write_whole};
 
 /// The version that is written.
 const VERSION: u64 = 1;
 
-/// Puts numbers of eight bytes behind what waits.
-fn put_long_words<K: Sink>(sink: &mut K, page: &mut Page, numbers: &[u64]) -> Result<(), SinkFault>
-    ensures takes { OnOk result
-        (Takes (K.held sink.old) page.old (K.held sink.new) page.new (long_words numbers.now)) }
-    ensures quiet { OnOk result (K.faults sink.new ≡ K.faults sink.old) }
-    ensures rose { OnErr result (Rose (K.faults sink.old) (K.faults sink.new)) }
-    ensures prefix { OnErr result
-        (GainsPrefix (K.held sink.old) (K.held sink.new) (page.old ++ long_words numbers.now)) }
+/// Writes numbers of eight bytes.
+fn write_numbers<K: Sink>(sink: &mut K, numbers: &[u64]) -> Result<(), SinkFault>
+    ensures { Wrote K.Sink result sink.old sink.new (le_text 8 numbers.now) }
 {
     for number in numbers {
-        page.put(sink, &number.to_le_bytes())?;
+        write_whole(sink, &number.to_le_bytes())?;
     }
     Ok(())
 }
 
-/// Puts the head behind what waits.
-fn put_head<K: Sink>(
-    sink: &mut K,
-    page: &mut Page,
-    size: u32,
-    list: &EdgeList,
-) -> Result<(), SinkFault>
-    ensures takes { OnOk result
-        (Takes (K.held sink.old) page.old (K.held sink.new) page.new (head_of size list.now)) }
-    ensures quiet { OnOk result (K.faults sink.new ≡ K.faults sink.old) }
-    ensures rose { OnErr result (Rose (K.faults sink.old) (K.faults sink.new)) }
-    ensures prefix { OnErr result
-        (GainsPrefix (K.held sink.old) (K.held sink.new) (page.old ++ head_of size list.now)) }
+/// Writes the head.
+fn write_head<K: Sink>(sink: &mut K, size: u32, list: &EdgeList) -> Result<(), SinkFault>
+    ensures { Wrote K.Sink result sink.old sink.new (head_of size list.now) }
 {
     let nodes = u64::from(list.nodes());
     let edges = list.edges().len() as u64;
-    put_long_words(sink, page, &[VERSION, u64::from(size), nodes, edges])
+    write_numbers(sink, &[VERSION, u64::from(size), nodes, edges])
 }
 
-/// Puts the padding behind what waits.
-fn put_padding<K: Sink>(sink: &mut K, page: &mut Page, edges: &[Edge]) -> Result<(), SinkFault>
-    ensures takes { OnOk result
-        (Takes (K.held sink.old) page.old (K.held sink.new) page.new (padding_of edges.now)) }
-    ensures quiet { OnOk result (K.faults sink.new ≡ K.faults sink.old) }
-    ensures rose { OnErr result (Rose (K.faults sink.old) (K.faults sink.new)) }
-    ensures prefix { OnErr result
-        (GainsPrefix (K.held sink.old) (K.held sink.new) (page.old ++ padding_of edges.now)) }
+/// Writes the padding.
+fn write_padding<K: Sink>(sink: &mut K, edges: &[Edge]) -> Result<(), SinkFault>
+    ensures { Wrote K.Sink result sink.old sink.new (padding_of edges.now) }
 {
     if edges.len() % 2 == 1 {
-        page.put(sink, &[0; 4])?;
+        write_whole(sink, &[0; 4])?;
     }
     Ok(())
 }
 
-/// Puts the weights behind what waits, where they have four bytes.
-fn put_weights<K: Sink>(
-    sink: &mut K,
-    page: &mut Page,
-    size: u32,
-    edges: &[Edge],
-) -> Result<(), SinkFault>
-    ensures takes { OnOk result
-        (Takes (K.held sink.old) page.old (K.held sink.new) page.new (weights_of size edges.now)) }
-    ensures quiet { OnOk result (K.faults sink.new ≡ K.faults sink.old) }
-    ensures rose { OnErr result (Rose (K.faults sink.old) (K.faults sink.new)) }
-    ensures prefix { OnErr result
-        (GainsPrefix (K.held sink.old) (K.held sink.new) (page.old ++ weights_of size edges.now)) }
+/// Writes the weights, where they have four bytes.
+fn write_weights<K: Sink>(sink: &mut K, size: u32, edges: &[Edge]) -> Result<(), SinkFault>
+    ensures { Wrote K.Sink result sink.old sink.new (weights_of size edges.now) }
 {
     if size == 4 {
-        put_column(sink, page, Column::Weights, edges)?;
+        write_column(sink, Column::Weights, edges)?;
     }
     Ok(())
+}
+
+/// Writes all sections of a file.
+fn write_sections<K: Sink>(sink: &mut K, size: u32, list: &EdgeList) -> Result<(), SinkFault>
+    ensures { Wrote K.Sink result sink.old sink.new (file_of size list.now) }
+{
+    let edges = list.edges();
+    write_head(sink, size, list)?;
+    write_index(sink, list.nodes(), edges)?;
+    write_column(sink, Column::Destinations, edges)?;
+    write_padding(sink, edges)?;
+    write_weights(sink, size, edges)
 }
 
 /// Writes the file of a graph. A weight has `size` bytes: 4, or none where each weight is 1.
@@ -95,12 +77,7 @@ pub fn write_graph<K: Sink>(sink: &mut K, list: &EdgeList, size: u32) -> Result<
     ensures prefix { OnErr result
         (GainsPrefix (K.held sink.old) (K.held sink.new) (file_of size list.now)) }
 {
-    let edges = list.edges();
-    let mut page = Page::new();
-    put_head(sink, &mut page, size, list)?;
-    put_index(sink, &mut page, list.nodes(), edges)?;
-    put_column(sink, &mut page, Column::Destinations, edges)?;
-    put_padding(sink, &mut page, edges)?;
-    put_weights(sink, &mut page, size, edges)?;
-    page.flush(sink)
+    let mut page = PagedSink::new(sink);
+    write_sections(&mut page, size, list)?;
+    page.flush()
 }

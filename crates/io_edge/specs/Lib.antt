@@ -1,5 +1,10 @@
 pub mod Faults
 pub mod Bytes
+pub mod Behind
+pub mod Reading
+pub mod Writing
 pub mod Listed
 pub mod MemoryInput
 pub mod MemoryOutput
+pub mod Paged
+pub mod ListedChoices

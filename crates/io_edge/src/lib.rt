@@ -6,8 +6,14 @@
 #![tactic(auto)]
 
 mod first_picks;
+mod last_picks;
+mod listed_picks;
 mod memory_sink;
 mod memory_source;
+mod mixed_picks;
+#[cfg(test)]
+mod page_caller;
+mod paged_sink;
 mod picker;
 mod pieces;
 mod plain_source;
@@ -17,13 +23,19 @@ mod std_sink;
 mod std_source;
 #[cfg(test)]
 mod tests;
+mod whole;
 
 pub use first_picks::FirstPicks;
+pub use last_picks::LastPicks;
+pub use listed_picks::ListedPicks;
 pub use memory_sink::MemorySink;
 pub use memory_source::MemorySource;
+pub use mixed_picks::MixedPicks;
+pub use paged_sink::PagedSink;
 pub use picker::Picker;
 pub use plain_source::PlainSource;
-pub use sink::{Sink, SinkFault, write_whole};
+pub use sink::{Sink, SinkFault};
 pub use source::{Source, SourceFault};
 pub use std_sink::StdSink;
 pub use std_source::StdSource;
+pub use whole::write_whole;

@@ -2,6 +2,7 @@
 ghost use Rattle.std.specs.Prelude.{◌≡◌, ℕ, ◌<◌, ◌≤◌, List, [], ◌++◌, length, take, min, Option, Some, IfOk, OnOk, OnErr, is_err};
 ghost use Rattle.io_edge.specs.Faults.{Rose, count_up};
 ghost use Rattle.io_edge.specs.Bytes.{Gains};
+ghost use Rattle.io_edge.specs.Behind.{Passes, nothing_behind};
 ghost use Rattle.io_edge.specs.MemoryOutput.{room_left, next_fails};
 
 use super::sink::{Sink, SinkFault};
@@ -101,6 +102,7 @@ impl Sink for MemorySink {
         ensures quiet { OnOk result (self.new.failed ≡ self.old.failed) }
         ensures rose { OnErr result (Rose self.old.failed self.new.failed) }
         ensures held_stays { OnErr result (Some self.new.held ≡ Some self.old.held) }
+        ensures passed { Passes nothing_behind nothing_behind }
     {
         let call = self.calls;
         self.calls = call.saturating_add(1);

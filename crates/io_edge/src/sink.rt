@@ -1,7 +1,8 @@
 //! Where bytes go.
 ghost use Rattle.std.specs.Prelude.{◌≡◌, ℕ, ◌<◌, ◌≤◌, List, length, take, Option, IfOk, OnOk, OnErr};
 ghost use Rattle.io_edge.specs.Faults.{Rose};
-ghost use Rattle.io_edge.specs.Bytes.{Gains, GainsPrefix};
+ghost use Rattle.io_edge.specs.Bytes.{Gains};
+ghost use Rattle.io_edge.specs.Behind.{Behind, Passes, nothing_behind};
 
 use thiserror::Error;
 
@@ -18,6 +19,9 @@ pub trait Sink {
     /// How many faults it met so far, at most 2^64 - 1.
     ghost faults: { Self → ℕ };
 
+    /// What stands behind a sink that passes its bytes on.
+    ghost behind: { Self → Behind } = { λ _. nothing_behind };
+
     /// Takes a front of `bytes`, and answers its length, which is not 0 where `bytes` is not empty.
     fn write(&mut self, bytes: &[u8]) -> Result<usize, SinkFault>
         ensures count { IfOk result (λ n. n ≤ length bytes.now) }
@@ -25,19 +29,6 @@ pub trait Sink {
         ensures gained { IfOk result (λ n. Gains (held self.old) (held self.new) (take n bytes.now)) }
         ensures quiet { OnOk result (faults self.new ≡ faults self.old) }
         ensures rose { OnErr result (Rose (faults self.old) (faults self.new)) }
-        ensures held_stays { OnErr result (held self.new ≡ held self.old) };
-}
-
-/// Writes all of `bytes`. Where a write fails, a front of them was written.
-pub fn write_whole<K: Sink>(sink: &mut K, bytes: &[u8]) -> Result<(), SinkFault>
-    ensures whole { OnOk result (Gains (K.held sink.old) (K.held sink.new) bytes.now) }
-    ensures quiet { OnOk result (K.faults sink.new ≡ K.faults sink.old) }
-    ensures rose { OnErr result (Rose (K.faults sink.old) (K.faults sink.new)) }
-    ensures prefix { OnErr result (GainsPrefix (K.held sink.old) (K.held sink.new) bytes.now) }
-{
-    let mut done = 0;
-    while done < bytes.len() {
-        done += sink.write(&bytes[done..])?;
-    }
-    Ok(())
+        ensures held_stays { OnErr result (held self.new ≡ held self.old) }
+        ensures passed { Passes (behind self.old) (behind self.new) };
 }

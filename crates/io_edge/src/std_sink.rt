@@ -1,6 +1,7 @@
 //! A sink over a writer of std.
 ghost use Rattle.std.specs.Prelude.{◌≡◌, ℕ, ◌<◌, ◌≤◌, length, None, IfOk, OnOk, OnErr};
 ghost use Rattle.io_edge.specs.Faults.{Rose, count_up};
+ghost use Rattle.io_edge.specs.Behind.{Passes, nothing_behind};
 
 use super::sink::{Sink, SinkFault};
 use std::io::Write;
@@ -43,6 +44,7 @@ impl<W: Write + Drop> Sink for StdSink<W> {
         ensures quiet { OnOk result (self.new ≡ self.old) }
         ensures counted { OnErr result (self.new ≡ count_up self.old) }
         ensures rose { OnErr result (Rose self.old self.new) }
+        ensures passed { Passes nothing_behind nothing_behind }
     {
         match self.inner.write(bytes) {
             Ok(count) if count > 0 || bytes.is_empty() => Ok(count),

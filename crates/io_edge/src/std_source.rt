@@ -8,7 +8,7 @@ use std::io::Read;
 use std::marker::Model;
 
 /// The most bytes that one read asks of the reader.
-const BUFFER_BYTES: usize = 65_536;
+const BUFFER_BYTES: usize = 16_384;
 
 /// Gives the bytes of a reader of std, and counts its errors. It is seen as that count, and tells nothing of
 /// the reader's bytes.
@@ -45,7 +45,7 @@ impl<R: Read + Drop> Source for StdSource<R> {
 
     ghost faults = { λ s. s };
 
-    /// Gives what one read of the reader gives, at most 65,536 bytes. Each error of it is a fault.
+    /// Gives what one read of the reader gives, at most 16,384 bytes. Each error of it is a fault.
     fn read(&mut self, into: &mut [u8]) -> Result<usize, SourceFault>
         ensures count { IfOk result (λ n. n ≤ length into.old) }
         ensures rest { IfOk result (λ n. drop n into.new ≡ drop n into.old) }

@@ -1,4 +1,5 @@
 //! Each object once through its trait, with a fault on the way.
+use super::page_caller::write_twice;
 use super::*;
 use std::alloc::Global;
 use std::io::{Error, ErrorKind, Read, Write};
@@ -13,7 +14,7 @@ fn pick_of<P: Picker>(picker: &mut P) -> u32 {
     picker.pick(3)
 }
 
-// Its second call fails. The others give 2 bytes, and spoil what follows them in the piece.
+// Its second call is interrupted. The others give 2 bytes, and spoil what follows them in the piece.
 #[derive(Drop)]
 struct FlakyReader {
     calls: usize,
@@ -23,7 +24,7 @@ impl Read for FlakyReader {
     fn read(&mut self, buf: &mut [u8]) -> std::io::Result<usize> {
         self.calls = self.calls.saturating_add(1);
         if self.calls == 2 {
-            return Err(Error::from(ErrorKind::BrokenPipe));
+            return Err(Error::from(ErrorKind::Interrupted));
         }
         for byte in buf.iter_mut() {
             *byte = b'x';
@@ -130,6 +131,79 @@ fn memory_sink_holds_what_was_written_up_to_a_fault(rt: HostRuntime) -> Result<(
 }
 
 #[test]
-fn first_picks_gives_the_first(rt: HostRuntime) {
+fn page_passes_on_what_waits_by_flush_and_loses_nothing_to_a_fault(
+    rt: HostRuntime,
+) -> Result<(), Fail> {
+    let alloc: Global = rt.alloc();
+    let mut sink = MemorySink::new(alloc, 100, 4, Vec::from_slice(alloc, &[1])?)?;
+    let mut page = PagedSink::new(&mut sink);
+    assert_eq!(rt; write_whole(&mut page, b"abc"), Ok(()));
+    assert_eq!(rt; write_whole(&mut page, b"defg"), Ok(()));
+    assert_eq!(rt; page.flush(), Err(SinkFault));
+    assert_eq!(rt; write_whole(&mut page, b"hi"), Ok(()));
+    assert_eq!(rt; page.flush(), Ok(()));
+    assert_eq!(rt; write_whole(&mut page, b"j"), Ok(()));
+    assert_eq!(rt; sink.held(), b"abcdefghi".as_slice());
+    Ok(())
+}
+
+#[test]
+fn page_passes_on_a_full_page_and_a_larger_piece(rt: HostRuntime) -> Result<(), Fail> {
+    let alloc: Global = rt.alloc();
+    let mut sink = MemorySink::new(alloc, 30_000, 9_000, Vec::new(alloc))?;
+    let long = vec![in alloc; b'a'; 10_000]?;
+    let mut page = PagedSink::new(&mut sink);
+    for end in [8_000, 8_000, 10_000, 1] {
+        if end <= long.len() {
+            assert_eq!(rt; write_whole(&mut page, &long[..end]), Ok(()));
+        }
+    }
+    assert_eq!(rt; sink.held().len(), 25_000);
+    Ok(())
+}
+
+#[test]
+fn caller_of_a_page_leaves_both_pieces_below(rt: HostRuntime) -> Result<(), Fail> {
+    let alloc: Global = rt.alloc();
+    let mut sink = MemorySink::new(alloc, 9, 4, Vec::new(alloc))?;
+    assert_eq!(rt; write_twice(&mut sink, b"abc", b"de"), Ok(()));
+    assert_eq!(rt; write_twice(&mut sink, b"fg", b"hijk"), Err(SinkFault));
+    assert_eq!(rt; sink.held(), b"abcdefghi".as_slice());
+    Ok(())
+}
+
+#[test]
+fn first_and_last_picks_give_the_first_and_the_last(rt: HostRuntime) {
     assert_eq!(rt; pick_of(&mut FirstPicks), 0);
+    assert_eq!(rt; pick_of(&mut LastPicks), 2);
+}
+
+#[test]
+fn listed_picks_give_their_list_and_then_0(rt: HostRuntime) -> Result<(), Fail> {
+    let mut picker = ListedPicks::new(Vec::from_slice(rt.alloc(), &[7, 5])?);
+    assert_eq!(rt; picker.begun(), None);
+    for (pick, asked, choices) in [(7, 1, 3), (5, 2, 6), (0, 3, 9)] {
+        assert_eq!(rt; pick_of(&mut picker), pick);
+        assert_eq!(rt; picker.begun(), Some(9));
+        assert_eq!(rt; picker.asked(), asked);
+        assert_eq!(rt; picker.choices(), choices);
+    }
+    Ok(())
+}
+
+// The words that SplitMix64's own program gives from 1234567 on, and that it gives first from 0 on.
+#[test]
+fn mixed_picks_are_the_low_halves_of_splitmix64(rt: HostRuntime) {
+    let mut picker = MixedPicks::new();
+    assert_eq!(rt; picker.pick(3), 0x7b1d_cdaf);
+    picker.start(1_234_567);
+    for word in [
+        6_457_827_717_110_365_317_u64,
+        3_203_168_211_198_807_973,
+        9_817_491_932_198_370_423,
+        4_593_380_528_125_082_431,
+        16_408_922_859_458_223_821,
+    ] {
+        assert_eq!(rt; picker.pick(2), (word % 0x1_0000_0000) as u32);
+    }
 }
