@@ -3,7 +3,7 @@ use Rattle.std.proofs.Common.{◌≡◌, ℕ, suc, ◌+◌, ◌-◌, ◌<◌, �
 use Rattle.std.proofs.lemmas.Bool.{cases_lt}
 use Rattle.std.proofs.lemmas.List.{drop_more, drop_all, drop-drop}
 use Rattle.gr_reader.specs.File.{last_entry, sources}
-use Rattle.gr_reader.specs.Sections.{NeverFalls}
+use Rattle.list_laws.specs.Rising.{NeverFalls}
 use Rattle.gr_reader.specs.EdgeLists.{IsCursor}
 
 -- there is an entry for an edge that is below the last

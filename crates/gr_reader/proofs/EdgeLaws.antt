@@ -3,35 +3,36 @@ use Rattle.std.proofs.Common.{◌≡◌, ℕ, suc, ◌+◌, ◌<◌, ◌≤◌, 
 use Rattle.std.proofs.lemmas.Bool.{cases_lt}
 use Rattle.std.proofs.lemmas.Bool.Decides.{nat_tests}
 use Rattle.graph_model.specs.declared.edge.Edge.{Edge}
-use Rattle.gr_reader.specs.File.{first_outside}
-use Rattle.gr_reader.specs.EdgeLists.{plain_edges}
+use Rattle.gr_reader.specs.declared.fault.GrFault.{GrFault}
+use Rattle.gr_reader.specs.declared.fault.GrFault.TheVariants.{Destination}
+use Rattle.gr_reader.specs.File.{destination_fault, plain_edges}
 
 -- a destination that is a node
-pub first_outside-step : (nodes place destination : ℕ) (destinations : List ℕ) → destination < nodes → first_outside nodes place (destination ∷ destinations) ≡ first_outside nodes (place + 1) destinations
-first_outside-step nodes place destination destinations inside = let test : ltb destination nodes ≡ true = grind (arith, nat_tests) in rw test refl
+pub destination_fault-step : (nodes place destination : ℕ) (destinations : List ℕ) → destination < nodes → destination_fault nodes place (destination ∷ destinations) ≡ destination_fault nodes (place + 1) destinations
+destination_fault-step nodes place destination destinations inside = let test : ltb destination nodes ≡ true = grind (arith, nat_tests) in rw test refl
 
 -- a destination that is no node
-pub first_outside-here : (nodes place destination : ℕ) (destinations : List ℕ) → nodes ≤ destination → first_outside nodes place (destination ∷ destinations) ≡ Some (place, destination)
-first_outside-here nodes place destination destinations outside = let test : ltb destination nodes ≡ false = grind (arith, nat_tests) in rw test refl
+pub destination_fault-here : (nodes place destination : ℕ) (destinations : List ℕ) → nodes ≤ destination → destination_fault nodes place (destination ∷ destinations) ≡ Some (Destination place destination)
+destination_fault-here nodes place destination destinations outside = let test : ltb destination nodes ≡ false = grind (arith, nat_tests) in rw test refl
 
 -- the first part has none, so the first is that of the second
-pub first_outside-append : (nodes place : ℕ) (xs ys : List ℕ) → first_outside nodes place xs ≡ None → first_outside nodes place (xs ++ ys) ≡ first_outside nodes (place + length xs) ys
-first_outside-append nodes place [] ys none = rw add-zero refl
-first_outside-append nodes place (x ∷ xs) ys none = ⊎_elim
+pub destination_fault-append : (nodes place : ℕ) (xs ys : List ℕ) → destination_fault nodes place xs ≡ None → destination_fault nodes place (xs ++ ys) ≡ destination_fault nodes (place + length xs) ys
+destination_fault-append nodes place [] ys none = rw add-zero refl
+destination_fault-append nodes place (x ∷ xs) ys none = ⊎_elim
     (λ (inside : x < nodes).
-    let rest : first_outside nodes (place + 1) xs ≡ None = sym (first_outside-step nodes place x xs inside) ∙ none in
+    let rest : destination_fault nodes (place + 1) xs ≡ None = sym (destination_fault-step nodes place x xs inside) ∙ none in
     let count : place + 1 + length xs ≡ place + suc (length xs) = omega arith in
-    first_outside-step nodes place x (xs ++ ys) inside ∙ first_outside-append nodes (place + 1) xs ys rest ∙ ap (λ (n : ℕ). first_outside nodes n ys) count)
-    (λ (outside : nodes ≤ x). absurd (let e = first_outside-here nodes place x xs outside in cc))
+    destination_fault-step nodes place x (xs ++ ys) inside ∙ destination_fault-append nodes (place + 1) xs ys rest ∙ ap (λ (n : ℕ). destination_fault nodes n ys) count)
+    (λ (outside : nodes ≤ x). absurd (let e = destination_fault-here nodes place x xs outside in cc))
     (cases_lt x nodes)
 
 -- the first of a front is the first of all
-pub first_outside-front : (nodes place : ℕ) (found : ℕ × ℕ) (xs ys : List ℕ) → first_outside nodes place xs ≡ Some found → first_outside nodes place (xs ++ ys) ≡ Some found
-first_outside-front nodes place found [] ys some = absurd (cc)
-first_outside-front nodes place found (x ∷ xs) ys some = ⊎_elim
+pub destination_fault-front : (nodes place : ℕ) (xs ys : List ℕ) (found : GrFault) → destination_fault nodes place xs ≡ Some found → destination_fault nodes place (xs ++ ys) ≡ Some found
+destination_fault-front nodes place [] ys found some = absurd (cc)
+destination_fault-front nodes place (x ∷ xs) ys found some = ⊎_elim
     (λ (inside : x < nodes).
-    first_outside-step nodes place x (xs ++ ys) inside ∙ first_outside-front nodes (place + 1) found xs ys (sym (first_outside-step nodes place x xs inside) ∙ some))
-    (λ (outside : nodes ≤ x). first_outside-here nodes place x (xs ++ ys) outside ∙ sym (first_outside-here nodes place x xs outside) ∙ some)
+    destination_fault-step nodes place x (xs ++ ys) inside ∙ destination_fault-front nodes (place + 1) xs ys found (sym (destination_fault-step nodes place x xs inside) ∙ some))
+    (λ (outside : nodes ≤ x). destination_fault-here nodes place x (xs ++ ys) outside ∙ sym (destination_fault-here nodes place x xs outside) ∙ some)
     (cases_lt x nodes)
 
 -- no destination gives no edge

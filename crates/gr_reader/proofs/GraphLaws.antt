@@ -1,76 +1,50 @@
 -- The edges of a file make a graph.
-use Rattle.std.proofs.Common.{◌≡◌, ℕ, zero, suc, ◌+◌, ◌-◌, ◌<◌, ◌≤◌, List, [], ◌∷◌, ◌++◌, length, replicate, None, Some, refl, sym, ap, subst, ◌∙◌, ⊎_elim, arith}
-use Rattle.std.specs.Prelude.{All, slice_get}
+use Rattle.std.proofs.Common.{◌≡◌, ℕ, ◌+◌, ◌-◌, ◌^◌, ◌<◌, ◌≤◌, lit<, List, [], ◌∷◌, length, map, replicate, None, refl, sym, ap, ◌∙◌, ⊎_elim, arith}
+use Rattle.std.specs.Prelude.{All}
 use Rattle.std.proofs.lemmas.Bool.{cases_lt}
-use Rattle.std.proofs.lemmas.List.Elements.{All-nil, All-cons}
+use Rattle.std.proofs.lemmas.List.Elements.{All-nil, All-cons, All-head, All-tail, All-append, All-replicate}
+use Rattle.list_laws.specs.Rising.{NeverFalls}
+use Rattle.list_laws.proofs.Rising.{NeverFalls-lower, NeverFalls-replicate}
 use Rattle.graph_model.specs.declared.edge.Edge.{Edge}
-use Rattle.graph_model.specs.declared.edge_list.TheConstants.{MAX_NODES, MAX_EDGES}
-use Rattle.graph_model.specs.Graph.{IsWithin, IsBySource, IsGraph}
-use Rattle.gr_reader.specs.File.{first_outside, sources}
-use Rattle.gr_reader.specs.EdgeLists.{plain_edges, unweighed}
-use Rattle.gr_reader.proofs.EdgeLaws.{first_outside-step, first_outside-here}
+use Rattle.graph_model.specs.Graph.{IsWithin, IsWeighed, IsBySource, IsGraph, most_nodes, most_edges}
+use Rattle.graph_model.proofs.GraphFacts.{IsBySource-nil, IsBySource-cons}
+use Rattle.gr_reader.specs.File.{destination_fault, sources, plain_edges, weighed}
+use Rattle.gr_reader.specs.EdgeLists.{unweighed}
+use Rattle.gr_reader.proofs.WeightLaws.{weighed-none}
+use Rattle.gr_reader.proofs.EdgeLaws.{destination_fault-step, destination_fault-here}
 
--- numbers that do not fall, from `low` on and below `high`
-pub IsUp : ℕ → ℕ → List ℕ → Type 0
-IsUp low high [] = Unit {0}
-IsUp low high (x ∷ xs) = (low ≤ x) × (x < high) × IsUp x high xs
+-- the source of an edge
+abbrev pub source : Edge → ℕ
+source edge = edge.src
 
--- a lower bound
-IsUp-lower : (low less high : ℕ) (xs : List ℕ) → less ≤ low → IsUp low high xs → IsUp less high xs
-unfolding IsUp
-IsUp-lower low less high [] below up = tt
-IsUp-lower low less high (x ∷ xs) below up = let first = up.0 in (omega arith, up.1, up.2)
+-- sources do not fall
+sources-rise : (node before : ℕ) (entries : List ℕ) → NeverFalls node (sources node before entries)
+sources-rise node before [] = tt
+sources-rise node before (entry ∷ entries) =
+    NeverFalls-replicate node (entry - before) (sources (node + 1) entry entries) (NeverFalls-lower node (node + 1) (sources (node + 1) entry entries) (omega arith) (sources-rise (node + 1) entry entries))
 
--- the same number again and again before them
-IsUp-replicate : (node high count : ℕ) (xs : List ℕ) → node < high → IsUp node high xs → IsUp node high (replicate count node ++ xs)
-unfolding IsUp
-IsUp-replicate node high zero xs below up = up
-IsUp-replicate node high (suc count) xs below up = (omega arith, below, IsUp-replicate node high count xs below up)
-
--- sources do not fall, and there is an entry for each
-pub IsUp-sources : (node before high : ℕ) (entries : List ℕ) → node + length entries ≤ high → IsUp node high (sources node before entries)
-unfolding IsUp
-IsUp-sources node before high [] fits = tt
-IsUp-sources node before high (entry ∷ entries) fits =
-    let more : IsUp (node + 1) high (sources (node + 1) entry entries) = IsUp-sources (node + 1) entry high entries (omega arith) in
-    IsUp-replicate node high (entry - before) (sources (node + 1) entry entries) (omega arith) (IsUp-lower (node + 1) node high (sources (node + 1) entry entries) (omega arith) more)
+-- there is an entry for each source
+sources-below : (node before high : ℕ) (entries : List ℕ) → node + length entries ≤ high → All (λ s. s < high) (sources node before entries)
+sources-below node before high [] fits = All-nil (λ s. s < high)
+sources-below node before high (entry ∷ entries) fits =
+    All-append (λ s. s < high) (replicate (entry - before) node) (sources (node + 1) entry entries)
+    (All-replicate (λ s. s < high) (entry - before) node (omega arith)) (sources-below (node + 1) entry high entries (omega arith))
 
 -- both ends of each edge are nodes
-pub plain_edges-within : (nodes low place : ℕ) (ss ds : List ℕ) → IsUp low nodes ss → first_outside nodes place ds ≡ None → All (IsWithin nodes) (plain_edges ss ds)
-unfolding IsUp
-plain_edges-within nodes low place [] ds up inside = All-nil (IsWithin nodes)
-plain_edges-within nodes low place (s ∷ ss) [] up inside = All-nil (IsWithin nodes)
-plain_edges-within nodes low place (s ∷ ss) (d ∷ ds) up inside = ⊎_elim
-    (λ (here : d < nodes). All-cons (IsWithin nodes) (record { src = s; dst = d; weight = 1 }) (plain_edges ss ds) (up.1, here)
-    (plain_edges-within nodes s (place + 1) ss ds up.2 (sym (first_outside-step nodes place d ds here) ∙ inside)))
-    (λ (outside : nodes ≤ d). absurd (let e = first_outside-here nodes place d ds outside in cc))
+plain_edges-within : (nodes place : ℕ) (ss ds : List ℕ) → All (λ s. s < nodes) ss → destination_fault nodes place ds ≡ None → All (IsWithin nodes) (plain_edges ss ds)
+plain_edges-within nodes place [] ds below clear = All-nil (IsWithin nodes)
+plain_edges-within nodes place (s ∷ ss) [] below clear = All-nil (IsWithin nodes)
+plain_edges-within nodes place (s ∷ ss) (d ∷ ds) below clear = ⊎_elim
+    (λ (here : d < nodes). All-cons (IsWithin nodes) (record { src = s; dst = d; weight = 1 }) (plain_edges ss ds) (All-head (λ n. n < nodes) s ss below, here)
+    (plain_edges-within nodes (place + 1) ss ds (All-tail (λ n. n < nodes) s ss below) (sym (destination_fault-step nodes place d ds here) ∙ clear)))
+    (λ (outside : nodes ≤ d). absurd (let e = destination_fault-here nodes place d ds outside in cc))
     (cases_lt d nodes)
 
--- each source is at least `low`
-plain_edges-low : (nodes low : ℕ) (ss ds : List ℕ) (i : ℕ) (edge : Edge) → IsUp low nodes ss → slice_get (plain_edges ss ds) i ≡ Some edge → low ≤ edge.src
-unfolding IsUp
-plain_edges-low nodes low [] ds i edge up at = absurd (cc)
-plain_edges-low nodes low (s ∷ ss) [] i edge up at = absurd (cc)
-plain_edges-low nodes low (s ∷ ss) (d ∷ ds) zero edge up at =
-    let first : Edge = record { src = s; dst = d; weight = 1 } in
-    let same : first ≡ edge = cc in
-    subst (λ (e : Edge). low ≤ e.src) same up.0
-plain_edges-low nodes low (s ∷ ss) (d ∷ ds) (suc i) edge up at =
-    let above : s ≤ edge.src = plain_edges-low nodes s ss ds i edge up.2 at in
-    let first = up.0 in
-    omega arith
-
 -- sources do not fall along the edges
-pub plain_edges-by_source : (nodes low : ℕ) (ss ds : List ℕ) → IsUp low nodes ss → IsBySource (plain_edges ss ds)
-unfolding IsUp
-plain_edges-by_source nodes low [] ds up i j a b before at_i at_j = absurd (cc)
-plain_edges-by_source nodes low (s ∷ ss) [] up i j a b before at_i at_j = absurd (cc)
-plain_edges-by_source nodes low (s ∷ ss) (d ∷ ds) up i zero a b before at_i at_j = absurd (omega arith)
-plain_edges-by_source nodes low (s ∷ ss) (d ∷ ds) up zero (suc j) a b before at_i at_j =
-    let first : Edge = record { src = s; dst = d; weight = 1 } in
-    let same : first ≡ a = cc in
-    subst (λ (e : Edge). e.src ≤ b.src) same (plain_edges-low nodes s ss ds j b up.2 at_j)
-plain_edges-by_source nodes low (s ∷ ss) (d ∷ ds) up (suc i) (suc j) a b before at_i at_j = plain_edges-by_source nodes s ss ds up.2 i j a b (omega arith) at_i at_j
+plain_edges-rise : (low : ℕ) (ss ds : List ℕ) → NeverFalls low ss → NeverFalls low (map source (plain_edges ss ds))
+plain_edges-rise low [] ds rises = tt
+plain_edges-rise low (s ∷ ss) [] rises = tt
+plain_edges-rise low (s ∷ ss) (d ∷ ds) rises = (rises.0, plain_edges-rise s ss ds rises.1)
 
 -- each of the edges has weight 1
 pub unweighed-plain_edges : (ss ds : List ℕ) → unweighed (plain_edges ss ds) ≡ plain_edges ss ds
@@ -78,14 +52,52 @@ unweighed-plain_edges [] ds = refl
 unweighed-plain_edges (s ∷ ss) [] = refl
 unweighed-plain_edges (s ∷ ss) (d ∷ ds) = ap (λ (l : List Edge). record { src = s; dst = d; weight = 1 } ∷ l) (unweighed-plain_edges ss ds)
 
--- these edges make a graph
-pub plain_edges-graph : (nodes : ℕ) (ends : List ℕ) (edges : List Edge) (destinations : List ℕ) → nodes ≤ MAX_NODES → length edges ≤ MAX_EDGES → length ends ≡ nodes
-    → edges ≡ plain_edges (sources 0 0 ends) destinations → first_outside nodes 0 destinations ≡ None → IsGraph (record { nodes = nodes; edges = edges })
-plain_edges-graph nodes ends edges destinations nodes_fit edges_fit count are inside =
-    let up : IsUp 0 nodes (sources 0 0 ends) = IsUp-sources 0 0 nodes ends (omega arith) in
+-- weights change no end
+weighed-sources : (edges : List Edge) (weights : List ℕ) → map source (weighed edges weights) ≡ map source edges
+weighed-sources [] weights = refl
+weighed-sources (edge ∷ edges) [] = refl
+weighed-sources (edge ∷ edges) (weight ∷ weights) = ap (λ (l : List ℕ). edge.src ∷ l) (weighed-sources edges weights)
+
+weighed-within : (nodes : ℕ) (edges : List Edge) (weights : List ℕ) → All (IsWithin nodes) edges → All (IsWithin nodes) (weighed edges weights)
+weighed-within nodes [] weights within = within
+weighed-within nodes (edge ∷ edges) [] within = within
+weighed-within nodes (edge ∷ edges) (weight ∷ weights) within =
+    All-cons (IsWithin nodes) (record { src = edge.src; dst = edge.dst; weight = weight }) (weighed edges weights)
+    (All-head (IsWithin nodes) edge edges within) (weighed-within nodes edges weights (All-tail (IsWithin nodes) edge edges within))
+
+-- the weights of the file fit, and so does 1
+weighed-light : (ss ds weights : List ℕ) → All (λ weight. weight < 2 ^ 32) weights → All IsWeighed (weighed (plain_edges ss ds) weights)
+weighed-light [] ds weights light = All-nil IsWeighed
+weighed-light (s ∷ ss) [] weights light = All-nil IsWeighed
+weighed-light (s ∷ ss) (d ∷ ds) [] light =
+    let edge : Edge = record { src = s; dst = d; weight = 1 } in
+    All-cons IsWeighed edge (plain_edges ss ds) (lit< tt) (rw (weighed-none (plain_edges ss ds)) at (weighed-light ss ds [] light))
+weighed-light (s ∷ ss) (d ∷ ds) (weight ∷ weights) light =
+    All-cons IsWeighed (record { src = s; dst = d; weight = weight }) (weighed (plain_edges ss ds) weights)
+    (All-head (λ w. w < 2 ^ 32) weight weights light) (weighed-light ss ds weights (All-tail (λ w. w < 2 ^ 32) weight weights light))
+
+-- no source is below the first
+NeverFalls-above : (low : ℕ) (edges : List Edge) → NeverFalls low (map source edges) → All (λ edge. low ≤ edge.src) edges
+NeverFalls-above low [] rises = All-nil (λ edge. low ≤ edge.src)
+NeverFalls-above low (edge ∷ edges) rises =
+    All-cons (λ edge. low ≤ edge.src) edge edges rises.0 (NeverFalls-above low edges (NeverFalls-lower low edge.src (map source edges) rises.0 rises.1))
+
+-- sources that do not fall are in order
+IsBySource-from_never_falls : (low : ℕ) (edges : List Edge) → NeverFalls low (map source edges) → IsBySource edges
+IsBySource-from_never_falls low [] rises = IsBySource-nil
+IsBySource-from_never_falls low (edge ∷ edges) rises = IsBySource-cons edge edges (NeverFalls-above edge.src edges rises.1) (IsBySource-from_never_falls edge.src edges rises.1)
+
+-- the edges of a file make a graph
+pub edges-graph : (nodes : ℕ) (ends destinations weights : List ℕ) (edges : List Edge) → nodes ≤ most_nodes → length edges ≤ most_edges → length ends ≡ nodes → destination_fault nodes 0 destinations ≡ None
+    → edges ≡ weighed (plain_edges (sources 0 0 ends) destinations) weights → All (λ weight. weight < 2 ^ 32) weights → IsGraph (record { nodes = nodes; edges = edges })
+edges-graph nodes ends destinations weights edges nodes_fit edges_fit count clear are light =
+    let ss = sources 0 0 ends in
+    let plain = plain_edges ss destinations in
+    let rises : NeverFalls 0 (map source (weighed plain weights)) = rw (weighed-sources plain weights) (plain_edges-rise 0 ss destinations (sources-rise 0 0 ends)) in
     record {
       nodes_fit = nodes_fit;
       edges_fit = edges_fit;
-      within = rw are (plain_edges-within nodes 0 0 (sources 0 0 ends) destinations up inside);
-      by_source = rw are (plain_edges-by_source nodes 0 (sources 0 0 ends) destinations up);
+      within = rw are (weighed-within nodes plain weights (plain_edges-within nodes 0 ss destinations (sources-below 0 0 nodes ends (omega arith)) clear));
+      weighed = rw are (weighed-light ss destinations weights light);
+      by_source = rw are (IsBySource-from_never_falls 0 (weighed plain weights) rises);
     }

@@ -1,27 +1,28 @@
 -- What the bytes of the head say, whatever follows them.
-use Rattle.std.proofs.Common.{◌≡◌, ℕ, ◌+◌, ◌<◌, ◌≤◌, Bool, true, false, List, ◌++◌, length, drop, Option, None, Some, IfSome, MatchResult, Result, Ok, Err, ◌==◌, ◌||◌, leb, refl, sym, ap, ◌∙◌, ⊎_elim, arith, length-append, length-drop}
+use Rattle.std.proofs.Common.{◌≡◌, ℕ, ◌+◌, ◌<◌, ◌≤◌, Bool, true, false, List, ◌++◌, length, take, drop, Option, None, Some, IfSome, MatchResult, Result, Ok, Err, ◌==◌, ◌||◌, leb, refl, sym, ap, ◌∙◌, ⊎_elim, arith, length-append, length-drop}
 use Rattle.std.proofs.lemmas.Bool.{cases_lt}
 use Rattle.std.proofs.lemmas.Bool.Decides.{nat_tests}
 use Rattle.std.proofs.lemmas.List.{drop-append-le, drop_at}
-use Rattle.std.specs.Int.{w64}
+use Rattle.list_laws.specs.LittleEndian.{le_number}
+use Rattle.list_laws.proofs.WholeNumbers.{first_number-append}
 use Rattle.io_edge.specs.Bytes.{Gives}
-use Rattle.graph_model.specs.declared.edge_list.TheConstants.{MAX_NODES, MAX_EDGES}
+use Rattle.io_edge.proofs.Moves.{Gives-told}
+use Rattle.graph_model.specs.Graph.{most_nodes, most_edges}
 use Rattle.gr_reader.specs.declared.head.Head.{Head}
 use Rattle.gr_reader.specs.declared.section.Section.TheVariants as section
 use Rattle.gr_reader.specs.declared.fault.GrFault.{GrFault}
 use Rattle.gr_reader.specs.declared.fault.GrFault.TheVariants.{Ends, Version, EdgeSize, Nodes, Edges}
-use Rattle.gr_reader.specs.Numbers.{first_number}
+use Rattle.gr_reader.specs.Cause.{cause_of}
 use Rattle.gr_reader.specs.File.{◌>>=◌, demand, long_at, head_at}
 use Rattle.gr_reader.specs.Reading.{Means}
 use Rattle.gr_reader.specs.Sections.{IsAtEnd}
-use Rattle.gr_reader.proofs.Known.{Gives-told, Gives-all}
-use Rattle.gr_reader.proofs.Numbers.{first_number-append}
-use Rattle.gr_reader.proofs.MeaningLaws.{Refuses-same}
+use Rattle.gr_reader.proofs.CauseLaws.{IfBytes-always}
+use Rattle.gr_reader.proofs.TakingLaws.{Gives-all}
 
 -- a number that lies in the first part
 long_at-append : (place : ℕ) (xs ys : List ℕ) → place + 8 ≤ length xs → long_at place (xs ++ ys) ≡ long_at place xs
 long_at-append place xs ys fits =
-    ap (first_number w64) (drop-append-le place xs ys (omega arith)) ∙ first_number-append w64 (drop place xs) ys (omega (arith, length-drop place xs))
+    ap (λ (l : List ℕ). le_number (take 8 l)) (drop-append-le place xs ys (omega arith)) ∙ first_number-append 8 (drop place xs) ys (omega (arith, length-drop place xs))
 
 -- what comes after four tests may come behind the last
 four_tests : {A B : Type 0} (a b c d : Bool) (e f g h : GrFault) (x : A) (next : A → Result B GrFault)
@@ -43,7 +44,7 @@ head_at-append got rest whole =
     let b = long_at-append 8 got rest (omega arith) in
     let c = long_at-append 16 got rest (omega arith) in
     let d = long_at-append 24 got rest (omega arith) in
-    rw (all, enough, a, b, c, d, drop_at got rest 32 whole) (sym (four_tests (long_at 0 got == 1) (long_at 8 got == 0 || long_at 8 got == 4) (leb (long_at 16 got) MAX_NODES) (leb (long_at 24 got) MAX_EDGES)
+    rw (all, enough, a, b, c, d, drop_at got rest 32 whole) (sym (four_tests (long_at 0 got == 1) (long_at 8 got == 0 || long_at 8 got == 4) (leb (long_at 16 got) most_nodes) (leb (long_at 24 got) most_edges)
     (Version (long_at 0 got)) (EdgeSize (long_at 8 got)) (Nodes (long_at 16 got)) (Edges (long_at 24 got)) _ (λ (found : Head × List ℕ). Ok (found.0, rest))))
 
 -- the input ends in the head
@@ -61,14 +62,14 @@ head_taken None new got found gives within last is = tt
 head_taken (Some bytes) new got (Ok head) gives within last is = ⊎_elim
     (λ (short : length got < 32). absurd (let e = head_at-short got short in cc))
     (λ (enough : 32 ≤ length got).
-    let told = Gives-told bytes new got gives in
+    let told = Gives-told bytes got new gives in
     let all : head_at (got ++ told.0) ≡ Ok (head, told.0) = rw is at (head_at-append got told.0 (omega arith)) in
     rw told.1 (ap head_at told.2 ∙ all))
     (cases_lt (length got) 32)
 head_taken (Some bytes) new got (Err fault) gives within last is = ⊎_elim
-    (λ (short : length got < 32). Refuses-same fault (head_at bytes) (ap head_at (Gives-all bytes new got gives (last short)) ∙ is))
+    (λ (short : length got < 32). IfBytes-always (cause_of fault) _ (ap head_at (Gives-all bytes new got gives (last short)) ∙ is))
     (λ (enough : 32 ≤ length got).
-    let told = Gives-told bytes new got gives in
+    let told = Gives-told bytes got new gives in
     let all : head_at (got ++ told.0) ≡ Err fault = rw is at (head_at-append got told.0 (omega arith)) in
-    Refuses-same fault (head_at bytes) (ap head_at told.2 ∙ all))
+    IfBytes-always (cause_of fault) _ (ap head_at told.2 ∙ all))
     (cases_lt (length got) 32)

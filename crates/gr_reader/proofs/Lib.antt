@@ -1,5 +1,7 @@
-pub mod Known
-pub mod Numbers
+pub mod CauseLaws
+pub mod TakingLaws
+pub mod Chunks
+pub mod SectionLaws
 pub mod Falls
 pub mod IndexLaws
 pub mod CursorLaws
@@ -7,5 +9,5 @@ pub mod EdgeLaws
 pub mod DestinationLaws
 pub mod GraphLaws
 pub mod WeightLaws
-pub mod MeaningLaws
 pub mod HeadLaws
+pub mod RestLaws

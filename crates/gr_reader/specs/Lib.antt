@@ -1,5 +1,6 @@
-pub mod Numbers
+pub mod Cause
 pub mod File
 pub mod Reading
+pub mod Reach
 pub mod Sections
 pub mod EdgeLists

@@ -1,12 +1,14 @@
 //! The destinations, from which the edges are made.
-ghost use Rattle.std.specs.Prelude.{◌≡◌, ◌+◌, ◌-◌, ◌*◌, ◌/◌, ◌<◌, ◌≤◌, [], ◌∷◌, ◌++◌, length, drop, vec_len, None, IfOk, IfErr, IfSome, OnOk};
-ghost use Rattle.std.specs.Int.{w32};
-ghost use Rattle.gr_reader.specs.Numbers.{whole_numbers};
-ghost use Rattle.graph_model.specs.Graph.{IsGraph};
-ghost use Rattle.gr_reader.specs.File.{first_outside, last_entry, sources};
-ghost use Rattle.gr_reader.specs.Reading.{IsHead, IsOfRest, Means, Takes, Counts};
-ghost use Rattle.gr_reader.specs.Sections.{NeverFalls, IsDestinationFault};
-ghost use Rattle.gr_reader.specs.EdgeLists.{plain_edges, plain_edges_at, unweighed, IsCursor, TookDestinations, HasDestinationFault};
+ghost use Rattle.std.specs.Prelude.{◌≡◌, ◌+◌, ◌-◌, ◌*◌, ◌/◌, ◌<◌, ◌≤◌, [], ◌∷◌, ◌++◌, length, drop, vec_len, None, IfOk, IfErr, OnOk};
+ghost use Rattle.list_laws.specs.LittleEndian.{whole_numbers};
+ghost use Rattle.list_laws.specs.Rising.{NeverFalls};
+ghost use Rattle.gr_reader.specs.declared.section.Section.TheVariants as part;
+ghost use Rattle.gr_reader.specs.Cause.{cause_of, IsOfSection, IsOfContent};
+ghost use Rattle.gr_reader.specs.File.{destination_fault, last_entry, sources, plain_edges, destinations_at};
+ghost use Rattle.gr_reader.specs.Reading.{IsHead, Counts};
+ghost use Rattle.gr_reader.specs.Reach.{TakesAtMost};
+ghost use Rattle.gr_reader.specs.Sections.{Came, Broke, IsFound};
+ghost use Rattle.gr_reader.specs.EdgeLists.{unweighed, IsCursor, TookDestinations};
 
 use crate::fault::GrFault;
 use crate::head::Head;
@@ -29,13 +31,19 @@ struct DestinationIntake<'a> {
 impl Intake for DestinationIntake<'_> {
     ghost fixed = { λ intake. record { nodes = intake.nodes; ends = intake.ends.now; edges = [] } };
 
+    ghost section = { part.Destinations };
+
+    ghost size = { 4 };
+
     ghost ready = { λ intake. IsCursor intake.ends.now intake.node (vec_len intake.edges) };
 
     ghost room = { λ intake. 4 * (last_entry 0 intake.ends.now - vec_len intake.edges) };
 
-    ghost took = { λ intake got. TookDestinations intake.nodes intake.ends.now intake.edges.items got };
+    ghost took = { λ intake numbers. TookDestinations intake.nodes intake.ends.now intake.edges.items numbers };
 
-    ghost faulty = { λ fixed got fault. HasDestinationFault fixed.nodes got fault };
+    ghost fault = { λ fixed numbers. destination_fault fixed.nodes 0 numbers };
+
+    ghost clear = { λ intake numbers took. took.clear };
 
     fn take(&mut self, piece: &[u8]) -> Result<(), GrFault> {
         self.node = push_edges(&mut self.edges, self.nodes, self.ends, self.node, piece)?;
@@ -70,13 +78,14 @@ fn push_edges(
     requires cursor { IsCursor ends.now node (vec_len edges.old) }
     requires room { length piece.now ≤ 4 * (last_entry 0 ends.now - vec_len edges.old) }
     ensures pushed { OnOk result (edges.new.items ≡ edges.old.items
-        ++ plain_edges (drop (vec_len edges.old) (sources 0 0 ends.now)) (whole_numbers w32 piece.now)) }
+        ++ plain_edges (drop (vec_len edges.old) (sources 0 0 ends.now)) (whole_numbers 4 piece.now)) }
     ensures count { OnOk result (vec_len edges.new ≡ vec_len edges.old + length piece.now / 4) }
     ensures cursor { IfOk result (λ source. IsCursor ends.now source (vec_len edges.new)) }
-    ensures inside { OnOk result
-        (first_outside nodes (vec_len edges.old) (whole_numbers w32 piece.now) ≡ None) }
-    ensures fault { IfErr result (λ fault.
-        IsDestinationFault (first_outside nodes (vec_len edges.old) (whole_numbers w32 piece.now)) fault) }
+    ensures clear { OnOk result
+        (destination_fault nodes (vec_len edges.old) (whole_numbers 4 piece.now) ≡ None) }
+    ensures found { IfErr result
+        (IsFound (destination_fault nodes (vec_len edges.old) (whole_numbers 4 piece.now))) }
+    ensures kind { IfErr result (λ fault. IsOfContent part.Destinations (cause_of fault)) }
 {
     let mut source = node;
     let mut rest = piece;
@@ -112,14 +121,14 @@ pub(crate) fn read_destinations<S: Source>(
     requires nodes { length ends.now ≡ head.nodes }
     requires rising { NeverFalls 0 ends.now }
     requires edges { last_entry 0 ends.now ≡ head.edges }
-    ensures means { IfSome (S.left source.old) (λ bytes.
-        Means (λ edges. edges.items) result (S.left source.new) (plain_edges_at head ends.now bytes)) }
-    ensures graph { IfOk result (λ edges.
-        IsGraph (record { nodes = head.nodes; edges = edges.items })) }
+    ensures came { IfOk result (λ edges.
+        Came (S.left source.old) (S.left source.new) (destinations_at head)
+        (λ numbers. TookDestinations head.nodes ends.now edges.items numbers)) }
+    ensures broke { IfErr result (Broke (S.left source.old) (destinations_at head)) }
     ensures count { IfOk result (λ edges. length edges.items ≡ head.edges) }
     ensures ones { IfOk result (λ edges. unweighed edges.items ≡ edges.items) }
-    ensures faults { IfErr result IsOfRest }
-    ensures taken { Takes (S.left source.old) (S.left source.new) }
+    ensures kind { IfErr result (λ fault. IsOfSection part.Destinations (cause_of fault)) }
+    ensures taken { TakesAtMost (4 * head.edges) (S.left source.old) (S.left source.new) }
     ensures counts { Counts result (S.faults source.old) (S.faults source.new) }
 {
     let mut intake = DestinationIntake {

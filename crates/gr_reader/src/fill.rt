@@ -2,7 +2,7 @@
 ghost use Rattle.std.specs.Prelude.{◌≡◌, ◌<◌, ◌≤◌, [], length, take, IfOk, IfSome, OnOk, OnErr};
 ghost use Rattle.io_edge.specs.Faults.{Rose};
 ghost use Rattle.io_edge.specs.Bytes.{Gives};
-ghost use Rattle.gr_reader.specs.Reading.{Takes};
+ghost use Rattle.gr_reader.specs.Reach.{TakesAtMost};
 
 use io_edge::{Source, SourceFault};
 
@@ -11,7 +11,7 @@ pub(crate) fn fill<S: Source>(source: &mut S, into: &mut [u8]) -> Result<usize, 
     ensures count { IfOk result (λ n. n ≤ length into.old) }
     ensures bytes { IfOk result (λ n. Gives (S.left source.old) (S.left source.new) (take n into.new)) }
     ensures end { IfOk result (λ n. n < length into.old → IfSome (S.left source.new) (λ bytes. bytes ≡ [])) }
-    ensures taken { Takes (S.left source.old) (S.left source.new) }
+    ensures taken { TakesAtMost (length into.old) (S.left source.old) (S.left source.new) }
     ensures quiet { OnOk result (S.faults source.new ≡ S.faults source.old) }
     ensures rose { OnErr result (Rose (S.faults source.old) (S.faults source.new)) }
 {

@@ -1,16 +1,19 @@
 //! A whole graph from a file.
 ghost use Rattle.std.specs.Prelude.{◌≡◌, length, IfOk, IfSome, IfErr, OnOk, OnErr};
 ghost use Rattle.gr_reader.specs.declared.stage.Stage.TheVariants as stages;
+ghost use Rattle.gr_reader.specs.Cause.{IsOfRest};
 ghost use Rattle.gr_reader.specs.File.{rest_at, file_at};
-ghost use Rattle.gr_reader.specs.Reading.{IsHead, IsOfRest, Means, Takes, Counts};
+ghost use Rattle.gr_reader.specs.Reading.{IsHead, Means, Counts};
+ghost use Rattle.gr_reader.specs.Reach.{TakesAtMost, reach, file_reach};
 
 use crate::destinations::read_destinations;
 use crate::fault::GrFault;
 use crate::head::Head;
 use crate::index::read_index;
+use crate::padding::read_padding;
 use crate::reader::{BUFFER_BYTES, GrReader};
 use crate::stage::Stage;
-use crate::weights::{read_padding, read_weights};
+use crate::weights::read_weights;
 use graph_model::EdgeList;
 use io_edge::Source;
 use std::alloc::Global;
@@ -28,7 +31,7 @@ fn read_sections<S: Source>(
         Means (λ graph. graph) result (S.left source.new) (rest_at head bytes)) }
     ensures nodes { IfOk result (λ graph. graph.nodes ≡ head.nodes) }
     ensures faults { IfErr result IsOfRest }
-    ensures taken { Takes (S.left source.old) (S.left source.new) }
+    ensures taken { TakesAtMost (reach head result) (S.left source.old) (S.left source.new) }
     ensures counts { Counts result (S.faults source.old) (S.faults source.new) }
 {
     let edges = {
@@ -56,7 +59,8 @@ pub fn read_rest<S: Source>(
     ensures head { reader.new.head ≡ reader.old.head }
     ensures ok { OnOk result (reader.new.stage ≡ stages.Done) }
     ensures failed { OnErr result (reader.new.stage ≡ stages.Failed) }
-    ensures taken { Takes (S.left source.old) (S.left source.new) }
+    // A fault of a section leaves what follows the section.
+    ensures taken { TakesAtMost (reach reader.old.head result) (S.left source.old) (S.left source.new) }
     ensures counts { Counts result (S.faults source.old) (S.faults source.new) }
 {
     reader.stage = Stage::Failed;
@@ -71,7 +75,8 @@ pub fn read_graph<S: Source>(alloc: Global, source: &mut S) -> Result<EdgeList, 
     // memory ran out.
     ensures means { IfSome (S.left source.old) (λ bytes.
         Means (λ graph. graph) result (S.left source.new) (file_at bytes)) }
-    ensures taken { Takes (S.left source.old) (S.left source.new) }
+    // A fault of a section leaves what follows the section.
+    ensures taken { TakesAtMost (file_reach (S.left source.old) result) (S.left source.old) (S.left source.new) }
     ensures counts { Counts result (S.faults source.old) (S.faults source.new) }
 {
     let mut reader = GrReader::new(alloc)?;

@@ -1,7 +1,10 @@
 //! The head of a file.
 ghost use Rattle.std.specs.Prelude.{◌≡◌, ◌+◌, ◌≤◌, length, drop, MatchResult, Ok, Err, IfOk, IfErr, IfSome};
+ghost use Rattle.gr_reader.specs.declared.section.Section.TheVariants as part;
+ghost use Rattle.gr_reader.specs.Cause.{BytesOf, cause_of, IsOfHead};
 ghost use Rattle.gr_reader.specs.File.{long_at, head_at};
-ghost use Rattle.gr_reader.specs.Reading.{IsHead, IsOfHead, IsFormatFault, Means, Takes, Counts};
+ghost use Rattle.gr_reader.specs.Reading.{IsHead, Means, Counts};
+ghost use Rattle.gr_reader.specs.Reach.{TakesAtMost};
 
 use crate::fault::GrFault;
 use crate::intake::next_piece;
@@ -27,7 +30,6 @@ pub struct Head {
 }
 
 /// The number of 8 bytes at this place.
-#[tactic(auto, unfolding(crate::specs::Numbers::first_number))]
 fn long_of(bytes: &[u8], place: usize) -> u64
     requires { place + 8 ≤ length bytes.now }
     ensures { result ≡ long_at place bytes.now }
@@ -40,12 +42,12 @@ fn long_of(bytes: &[u8], place: usize) -> u64
 
 /// The head that these bytes have, of which there may be too few.
 #[tactic(auto, unfolding(crate::specs::File::head_at))]
-fn head_of(bytes: &[u8]) -> Result<Head, GrFault>
+fn parsed_head(bytes: &[u8]) -> Result<Head, GrFault>
     ensures means { MatchResult result
         (λ head. head_at bytes.now ≡ Ok (head, drop 32 bytes.now))
         (λ fault. head_at bytes.now ≡ Err fault) }
     ensures accepted { IfOk result IsHead }
-    ensures faults { IfErr result IsFormatFault }
+    ensures kind { IfErr result (λ fault. cause_of fault ≡ BytesOf part.Head) }
 {
     if bytes.len() < HEAD_BYTES {
         return Err(GrFault::Ends {
@@ -84,9 +86,9 @@ pub(crate) fn take_head<S: Source>(source: &mut S, buffer: &mut [u8]) -> Result<
         Means (λ head. head) result (S.left source.new) (head_at bytes)) }
     ensures accepted { IfOk result IsHead }
     ensures faults { IfErr result IsOfHead }
-    ensures taken { Takes (S.left source.old) (S.left source.new) }
+    ensures taken { TakesAtMost 32 (S.left source.old) (S.left source.new) }
     ensures counts { Counts result (S.faults source.old) (S.faults source.new) }
 {
     let bytes = next_piece(source, buffer, HEAD_BYTES)?;
-    head_of(bytes)
+    parsed_head(bytes)
 }

@@ -1,11 +1,14 @@
 //! The index: where the edges of each node end.
-ghost use Rattle.std.specs.Prelude.{◌≡◌, ◌-◌, ◌*◌, ◌≤◌, [], ◌++◌, length, vec_len, None, IfOk, IfErr, IfSome, OnOk};
-ghost use Rattle.std.specs.Int.{w64};
-ghost use Rattle.graph_model.specs.declared.edge_list.TheConstants.{MAX_NODES};
-ghost use Rattle.gr_reader.specs.Numbers.{whole_numbers};
-ghost use Rattle.gr_reader.specs.File.{first_fall, last_entry, index_at};
-ghost use Rattle.gr_reader.specs.Reading.{IsHead, IsOfRest, Means, Takes, Counts};
-ghost use Rattle.gr_reader.specs.Sections.{NeverFalls, IsEntryFault, TookIndex, HasEntryFault};
+ghost use Rattle.std.specs.Prelude.{◌≡◌, ◌-◌, ◌*◌, ◌≤◌, [], ◌++◌, length, vec_len, None, IfOk, IfErr, OnOk};
+ghost use Rattle.list_laws.specs.LittleEndian.{whole_numbers};
+ghost use Rattle.list_laws.specs.Rising.{NeverFalls};
+ghost use Rattle.graph_model.specs.Graph.{most_nodes};
+ghost use Rattle.gr_reader.specs.declared.section.Section.TheVariants as part;
+ghost use Rattle.gr_reader.specs.Cause.{cause_of, IsOfSection, IsOfContent};
+ghost use Rattle.gr_reader.specs.File.{entry_fault, last_entry, index_at};
+ghost use Rattle.gr_reader.specs.Reading.{IsHead, Counts};
+ghost use Rattle.gr_reader.specs.Reach.{TakesAtMost};
+ghost use Rattle.gr_reader.specs.Sections.{Came, Broke, IsFound, TookIndex};
 
 use crate::fault::GrFault;
 use crate::head::Head;
@@ -25,13 +28,19 @@ struct IndexIntake {
 impl Intake for IndexIntake {
     ghost fixed = { λ index. record { nodes = 0; ends = []; edges = [] } };
 
+    ghost section = { part.Index };
+
+    ghost size = { 8 };
+
     ghost ready = { λ index. Unit {0} };
 
-    ghost room = { λ index. 8 * (MAX_NODES - vec_len index.entries) };
+    ghost room = { λ index. 8 * (most_nodes - vec_len index.entries) };
 
-    ghost took = { λ index got. TookIndex index.entries.items index.before got };
+    ghost took = { λ index numbers. TookIndex index.entries.items index.before numbers };
 
-    ghost faulty = { λ fixed got fault. HasEntryFault got fault };
+    ghost fault = { λ fixed numbers. entry_fault 0 0 numbers };
+
+    ghost clear = { λ index numbers took. took.clear };
 
     fn take(&mut self, piece: &[u8]) -> Result<(), GrFault> {
         self.before = push_entries(&mut self.entries, self.before, piece)?;
@@ -42,12 +51,13 @@ impl Intake for IndexIntake {
 /// Pushes the entries of a piece behind those so far, the last of which is `before`, and answers the
 /// last now.
 fn push_entries(entries: &mut Vec<u64>, before: u64, piece: &[u8]) -> Result<u64, GrFault>
-    requires { length piece.now ≤ 8 * (MAX_NODES - vec_len entries.old) }
-    ensures pushed { OnOk result (entries.new.items ≡ entries.old.items ++ whole_numbers w64 piece.now) }
-    ensures last { IfOk result (λ last. last ≡ last_entry before (whole_numbers w64 piece.now)) }
-    ensures rising { OnOk result (first_fall (vec_len entries.old) before (whole_numbers w64 piece.now) ≡ None) }
-    ensures fault { IfErr result (λ fault.
-        IsEntryFault (first_fall (vec_len entries.old) before (whole_numbers w64 piece.now)) fault) }
+    requires { length piece.now ≤ 8 * (most_nodes - vec_len entries.old) }
+    ensures pushed { OnOk result (entries.new.items ≡ entries.old.items ++ whole_numbers 8 piece.now) }
+    ensures last { IfOk result (λ last. last ≡ last_entry before (whole_numbers 8 piece.now)) }
+    ensures clear { OnOk result (entry_fault (vec_len entries.old) before (whole_numbers 8 piece.now) ≡ None) }
+    ensures found { IfErr result
+        (IsFound (entry_fault (vec_len entries.old) before (whole_numbers 8 piece.now))) }
+    ensures kind { IfErr result (λ fault. IsOfContent part.Index (cause_of fault)) }
 {
     let mut last = before;
     let mut rest = piece;
@@ -72,13 +82,14 @@ pub(crate) fn read_index<S: Source>(
 ) -> Result<Vec<u64>, GrFault>
     requires buffer { length buffer.old ≡ BUFFER_BYTES }
     requires head { IsHead head }
-    ensures means { IfSome (S.left source.old) (λ bytes.
-        Means (λ index. index.items) result (S.left source.new) (index_at head bytes)) }
+    ensures came { IfOk result (λ index.
+        Came (S.left source.old) (S.left source.new) (index_at head) (λ numbers. index.items ≡ numbers)) }
+    ensures broke { IfErr result (Broke (S.left source.old) (index_at head)) }
     ensures nodes { IfOk result (λ index. length index.items ≡ head.nodes) }
     ensures rising { IfOk result (λ index. NeverFalls 0 index.items) }
     ensures edges { IfOk result (λ index. last_entry 0 index.items ≡ head.edges) }
-    ensures faults { IfErr result IsOfRest }
-    ensures taken { Takes (S.left source.old) (S.left source.new) }
+    ensures kind { IfErr result (λ fault. IsOfSection part.Index (cause_of fault)) }
+    ensures taken { TakesAtMost (8 * head.nodes) (S.left source.old) (S.left source.new) }
     ensures counts { Counts result (S.faults source.old) (S.faults source.new) }
 {
     let mut index = IndexIntake {

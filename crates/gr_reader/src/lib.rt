@@ -16,6 +16,7 @@ mod graph;
 mod head;
 mod index;
 mod intake;
+mod padding;
 mod reader;
 mod section;
 mod stage;

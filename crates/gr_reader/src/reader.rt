@@ -33,7 +33,9 @@ impl Model for GrReader {
 
 impl GrReader {
     ghost use Rattle.gr_reader.specs.File.{head_at};
-    ghost use Rattle.gr_reader.specs.Reading.{IsHead, IsOfHead, Means, Takes, Counts};
+    ghost use Rattle.gr_reader.specs.Cause.{IsOfHead};
+    ghost use Rattle.gr_reader.specs.Reading.{IsHead, Means, Counts};
+    ghost use Rattle.gr_reader.specs.Reach.{TakesAtMost};
 
     /// A reader at the start of a file. It takes the one buffer that it reads into.
     pub fn new(alloc: Global) -> Result<GrReader, AllocError>
@@ -69,7 +71,8 @@ impl GrReader {
         ensures faults { IfErr result IsOfHead }
         ensures ok { IfOk result (λ head. self.new ≡ record { stage = Stage.Index; head = head }) }
         ensures failed { OnErr result (self.new.stage ≡ Stage.Failed) }
-        ensures taken { Takes (S.left source.old) (S.left source.new) }
+        // A fault too leaves what follows the 32 bytes of the head.
+        ensures taken { TakesAtMost 32 (S.left source.old) (S.left source.new) }
         ensures counts { Counts result (S.faults source.old) (S.faults source.new) }
     {
         self.stage = Stage::Failed;

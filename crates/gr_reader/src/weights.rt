@@ -1,14 +1,17 @@
-//! The weights, and the padding before them.
-ghost use Rattle.std.specs.Prelude.{◌≡◌, ◌-◌, ◌*◌, ◌/◌, ◌≤◌, [], length, vec_len, IfOk, IfErr, IfSome};
-ghost use Rattle.std.specs.Int.{w32};
-ghost use Rattle.gr_reader.specs.Numbers.{whole_numbers};
-ghost use Rattle.gr_reader.specs.File.{padding, padding_at};
-ghost use Rattle.gr_reader.specs.Reading.{IsHead, IsOfRest, Means, Takes, Counts};
-ghost use Rattle.gr_reader.specs.EdgeLists.{unweighed, weighed, weighed_at, TookWeights};
+//! The weights of the edges.
+ghost use Rattle.std.specs.Prelude.{◌≡◌, ◌-◌, ◌*◌, ◌/◌, ◌^◌, ◌<◌, ◌≤◌, [], length, All, vec_len, refl, IfOk, IfErr, OnOk};
+ghost use Rattle.list_laws.specs.LittleEndian.{whole_numbers};
+ghost use Rattle.gr_reader.specs.declared.section.Section.TheVariants as part;
+ghost use Rattle.gr_reader.specs.Cause.{cause_of, IsOfSection};
+ghost use Rattle.gr_reader.specs.File.{no_fault, weight_bytes, weights_at, weighed};
+ghost use Rattle.gr_reader.specs.Reading.{IsHead, Counts};
+ghost use Rattle.gr_reader.specs.Reach.{TakesAtMost};
+ghost use Rattle.gr_reader.specs.Sections.{Came, Broke};
+ghost use Rattle.gr_reader.specs.EdgeLists.{unweighed, TookWeights};
 
 use crate::fault::GrFault;
 use crate::head::Head;
-use crate::intake::{Intake, next_piece, read_section};
+use crate::intake::{Intake, read_section};
 use crate::reader::BUFFER_BYTES;
 use crate::section::Section;
 use graph_model::Edge;
@@ -24,13 +27,19 @@ struct WeightIntake {
 impl Intake for WeightIntake {
     ghost fixed = { λ intake. record { nodes = 0; ends = []; edges = unweighed intake.edges.items } };
 
+    ghost section = { part.Weights };
+
+    ghost size = { 4 };
+
     ghost ready = { λ intake. intake.place ≤ vec_len intake.edges };
 
     ghost room = { λ intake. 4 * (vec_len intake.edges - intake.place) };
 
-    ghost took = { λ intake got. TookWeights intake.edges.items intake.place got };
+    ghost took = { λ intake numbers. TookWeights intake.edges.items intake.place numbers };
 
-    ghost faulty = { λ fixed got fault. ⊥ };
+    ghost fault = { λ fixed numbers. no_fault numbers };
+
+    ghost clear = { λ intake numbers took. refl };
 
     fn take(&mut self, piece: &[u8]) -> Result<(), GrFault> {
         set_weights(&mut self.edges[self.place..], piece);
@@ -42,7 +51,7 @@ impl Intake for WeightIntake {
 /// Gives the first edges the weights of a piece.
 fn set_weights(edges: &mut [Edge], piece: &[u8])
     requires { length piece.now / 4 ≤ length edges.old }
-    ensures { edges.new ≡ weighed edges.old (whole_numbers w32 piece.now) }
+    ensures { edges.new ≡ weighed edges.old (whole_numbers 4 piece.now) }
 {
     let mut place = 0;
     let mut rest = piece;
@@ -53,40 +62,16 @@ fn set_weights(edges: &mut [Edge], piece: &[u8])
     }
 }
 
-/// The bytes of padding before the weights: 4 where the edges have weights and are odd in number.
-fn padding_bytes(head: Head) -> usize
-    ensures bytes { result ≡ padding head }
-    ensures few { result ≤ 4 }
+/// The bytes of the weights: 4 for each edge, where edges have weights.
+fn weight_length(head: Head) -> usize
+    ensures bytes { result ≡ weight_bytes head }
+    ensures most { result ≤ 4 * head.edges }
 {
-    if head.edge_size == 4 && head.edges % 2 == 1 {
-        4
-    } else {
+    if head.edge_size == 0 {
         0
+    } else {
+        4 * head.edges as usize
     }
-}
-
-/// Reads the padding, which may be any bytes.
-pub(crate) fn read_padding<S: Source>(
-    source: &mut S,
-    buffer: &mut [u8],
-    head: Head,
-) -> Result<(), GrFault>
-    requires { length buffer.old ≡ BUFFER_BYTES }
-    ensures means { IfSome (S.left source.old) (λ bytes.
-        Means (λ none. none) result (S.left source.new) (padding_at head bytes)) }
-    ensures faults { IfErr result IsOfRest }
-    ensures taken { Takes (S.left source.old) (S.left source.new) }
-    ensures counts { Counts result (S.faults source.old) (S.faults source.new) }
-{
-    let wanted = padding_bytes(head);
-    let piece = next_piece(source, buffer, wanted)?;
-    if piece.len() < wanted {
-        return Err(GrFault::Ends {
-            section: Section::Padding,
-            got: piece.len() as u64,
-        });
-    }
-    Ok(())
 }
 
 /// Reads the weights of the edges, each of which has weight 1 so far.
@@ -100,18 +85,16 @@ pub(crate) fn read_weights<S: Source>(
     requires head { IsHead head }
     requires count { length edges.items ≡ head.edges }
     requires ones { unweighed edges.items ≡ edges.items }
-    ensures means { IfSome (S.left source.old) (λ bytes.
-        Means (λ found. found.items) result (S.left source.new) (weighed_at head edges.items bytes)) }
-    ensures same { IfOk result (λ found. unweighed found.items ≡ edges.items) }
-    ensures faults { IfErr result IsOfRest }
-    ensures taken { Takes (S.left source.old) (S.left source.new) }
+    ensures came { IfOk result (λ found.
+        Came (S.left source.old) (S.left source.new) (weights_at head)
+        (λ numbers. (found.items ≡ weighed edges.items numbers) × All (λ weight. weight < 2 ^ 32) numbers)) }
+    ensures broke { IfErr result (Broke (S.left source.old) (weights_at head)) }
+    ensures kind { IfErr result (λ fault. IsOfSection part.Weights (cause_of fault)) }
+    ensures taken { TakesAtMost (weight_bytes head) (S.left source.old) (S.left source.new) }
     ensures counts { Counts result (S.faults source.old) (S.faults source.new) }
 {
-    if head.edge_size == 0 {
-        return Ok(edges);
-    }
+    let want = weight_length(head);
     let mut intake = WeightIntake { edges, place: 0 };
-    let want = 4 * head.edges as usize;
     read_section(source, buffer, Section::Weights, want, &mut intake)?;
     Ok(intake.edges)
 }

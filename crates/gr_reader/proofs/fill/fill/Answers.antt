@@ -1,6 +1,7 @@
 use Rattle.std.proofs.Common.{◌≡◌, ◌+◌, length, drop, ◌-◌, ◌≤◌, ◌∙◌, arith, length-drop}
 use Rattle.std.proofs.lemmas.List.{length-take}
-use Rattle.gr_reader.proofs.Known.{Gives-append, take_filled, length_filled}
+use Rattle.list_laws.proofs.Fronts.{take_filled, length_filled}
+use Rattle.io_edge.proofs.Moves.{Gives-++}
 use Rattle.gr_reader.proofs.fill.fill.Goals as goal
 
 pub loop-filled-preserved : goal.loop-filled-preserved
@@ -12,6 +13,6 @@ loop-filled-preserved g c =
     record {
       within = rw (length_filled c.loop-filled.filled old new c.loop-filled.invariant.within long) within;
       bytes = rw (take_filled c.loop-filled.filled c.in_ok-came.came old new c.loop-filled.invariant.within long)
-          (Gives-append _ _ _ _ _ c.loop-filled.invariant.bytes c.in_ok-came.ensures.bytes);
+          (Gives-++ _ _ _ _ _ c.loop-filled.invariant.bytes c.in_ok-came.ensures.bytes);
       quiet = c.in_ok-came.ensures.quiet ∙ c.loop-filled.invariant.quiet;
     }

@@ -6,4 +6,4 @@ pub returns-clause-means : goal.returns-clause-means
 returns-clause-means g c =
     let got = c.in_ok-bytes.bytes.now in
     let within : length got ≤ 32 = omega (arith, c.in_ok-bytes.ensures.count) in
-    head_taken _ _ got c.head_of.result c.in_ok-bytes.ensures.bytes within (λ (short : length got < 32). c.in_ok-bytes.ensures.end (omega arith)) c.head_of.ensures.means
+    head_taken _ _ got c.parsed_head.result c.in_ok-bytes.ensures.bytes within (λ (short : length got < 32). c.in_ok-bytes.ensures.end (omega arith)) c.parsed_head.ensures.means
