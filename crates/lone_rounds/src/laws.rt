@@ -1,0 +1,29 @@
+//! Laws of the rounds of a program. Each function does nothing: its contract is the law.
+ghost use Rattle.lone_rounds.specs.Laws.{QuietStays, OnlyReachedChange, ArcOrderIsFree, SharesBring, GraphsHaveArcs};
+
+use reduce_laws::VertexProgram;
+
+/// After a round that changed no shown value no state changes any more.
+pub fn quiet_stays<P: VertexProgram>()
+    ensures { (program : P) → QuietStays P.Red.reducer (P.steps program) }
+{}
+
+/// From the second round on only the heads of arcs from awake tails can change.
+pub fn only_reached_change<P: VertexProgram>()
+    ensures { (program : P) → OnlyReachedChange P.Red.reducer (P.steps program) }
+{}
+
+/// The order in which arcs stand makes no difference.
+pub fn arc_order_is_free<P: VertexProgram>()
+    ensures { (program : P) → ArcOrderIsFree P.Red.reducer (P.steps program) }
+{}
+
+/// What arcs bring to a vertex may be combined host by host.
+pub fn shares_bring<P: VertexProgram>()
+    ensures { (program : P) → SharesBring P.Red.reducer (P.steps program) }
+{}
+
+/// Every graph has arcs on which programs may run, whichever way they are followed.
+pub fn graphs_have_arcs()
+    ensures { GraphsHaveArcs }
+{}

@@ -1,0 +1,9 @@
+//! A program's rounds on a whole graph, without hosts and packets: what every run over hosts is
+//! held to. The crate has definitions and laws, and no call that does anything.
+#![tactic(auto)]
+
+mod laws;
+
+pub use laws::{
+    arc_order_is_free, graphs_have_arcs, only_reached_change, quiet_stays, shares_bring,
+};
