@@ -1,23 +1,29 @@
 -- What the checks pass is a form, and it has the entries that they find.
 use Rattle.std.proofs.Common.{◌≡◌, ◌<◌, ◌≤◌, ℕ, zero, suc, ◌+◌, ◌*◌, ◌/◌, Bool, true, false, cond, List, [], ◌∷◌, ◌++◌, length, take, drop, map, get_or, refl, sym, ap, subst, ◌∙◌, arith, inl, inr, Ok, Err, Some, None, Option, Result}
 use Rattle.std.specs.Prelude.{nat_eq, nat_lt, ◌||◌, replicate, IfOk}
-use Rattle.std.specs.List.{All, AllByRecursion, flat_map, list_any}
+use Rattle.std.specs.List.{All, AllByRecursion, flat_map, list_any, range_with_len, items_where_true}
 use Rattle.std.proofs.lemmas.Bool.{eqb-true, eq-eqb, ne_eqb, ltb-false, cases_eq}
 use Rattle.std.specs.List.Sorted.{IsStrictlyIncreasing}
 use Rattle.std.proofs.lemmas.List.{length-map, take_all, length-take, length-drop, length-replicate, take-append-drop, get_or_default}
+use Rattle.std.proofs.lemmas.List.FromFn.{length-range_with_len}
 use Rattle.std.proofs.lemmas.List.Elements.{All-from_recursion, All-replicate, All-take, All-drop, All-tail}
-use Rattle.reduce_laws.specs.WordLaws.{WordLaws, AreBytes}
+use Rattle.reduce_laws.specs.WordLaws.{WordLaws}
+use Rattle.list_laws.specs.LittleEndian.{AreBytes, le_bytes, le_number, pieces, numbers}
 use Rattle.field_encodings.specs.declared.decode_fault.DecodeFault.{DecodeFault}
 use Rattle.field_encodings.specs.declared.decode_fault.DecodeFault.TheVariants.{Tag, Length, Width, PadBits}
-use Rattle.field_encodings.specs.Numbers.{le_bytes, le_number, pieces, numbers, count_up}
-use Rattle.field_encodings.specs.Marks.{chosen, marked_from, packed, unpacked, vector_length, bit_vector}
-use Rattle.field_encodings.specs.Lengths.{greatest_of, width_for}
-use Rattle.field_encodings.specs.Forms.{names, IsWellFormed, position_text}
-use Rattle.field_encodings.specs.Checks.{paired, if_length, unless_fault, position_fault, id_fault, place_of, all_checked, bits_checked, positions_checked, ids_checked, checked}
-use Rattle.field_encodings.proofs.NumberLemmas.{length-pieces, length-count_up, le_bytes-le_number, rewritten}
-use Rattle.field_encodings.proofs.Rising.{Rises, Rises-from_increasing, Rises-count_up, AllAmong, all_among_count_up, rising_from_position_fault, rising_from_id_fault}
-use Rattle.field_encodings.proofs.MarkLemmas.{packed-unpacked, packed-padded, length-unpacked, none_set}
-use Rattle.field_encodings.proofs.Chosen.{marks_naming, length-marks_naming, chosen-marks_naming, marked-chosen, places_of_chosen, spread, length-spread, chosen-spread, All-spread}
+use Rattle.list_laws.specs.Members.{members_from}
+use Rattle.list_laws.specs.Bits.{packed, unpacked}
+use Rattle.field_encodings.specs.Lengths.{vector_length, greatest_of, width_for}
+use Rattle.field_encodings.specs.Forms.{bit_vector, names, IsWellFormed, position_text}
+use Rattle.field_encodings.specs.Checks.{paired, if_length, unless_fault, position_fault, id_fault, all_checked, bits_checked, positions_checked, ids_checked, checked}
+use Rattle.list_laws.specs.Among.{place_of, AllAmong}
+use Rattle.list_laws.proofs.LittleEndian.{length-pieces, le_bytes-le_number, rewritten}
+use Rattle.list_laws.specs.Rising.{Rises}
+use Rattle.list_laws.proofs.Rising.{Rises-from_increasing, Rises-range}
+use Rattle.list_laws.proofs.Among.{all_among_range}
+use Rattle.field_encodings.proofs.Faults.{rising_from_position_fault, rising_from_id_fault}
+use Rattle.list_laws.proofs.Bits.{packed-unpacked, packed-padded, length-unpacked, none_set}
+use Rattle.list_laws.proofs.Chosen.{marks_naming, length-marks_naming, items-marks_naming, members-items, places_of_items, spread, length-spread, items-spread, All-spread}
 
 -- ---- what a pass says of each check
 
@@ -64,16 +70,16 @@ module _ {X : Type 0} (size : ℕ) (IsValue : X → Type 0) (bytes_of : X → Li
   filler_is_value = laws.reads_values (replicate size 0) (length-replicate size 0) (All-replicate (λ b. b < 256) size 0 (omega arith))
 
   -- a form made from what a payload with a tag above 0 names, and the values behind
-  made : (more : ℕ) (ids front behind positions : List ℕ) (marks : List Bool) → suc more ≤ 3 → length marks ≡ length ids → names (suc more) ids marks ≡ front → marked_from 0 marks ≡ positions
+  made : (more : ℕ) (ids front behind positions : List ℕ) (marks : List Bool) → suc more ≤ 3 → length marks ≡ length ids → names (suc more) ids marks ≡ front → members_from 0 marks ≡ positions
       → length behind ≡ length positions * size → AreBytes behind → IsWellFormed IsValue bytes_of ids (suc more ∷ (front ++ behind)) (paired size value_of positions behind)
   made more ids front behind positions marks t m n p l h =
       let found : List X = map value_of (pieces size (length positions) behind) in
-      let count : length found ≡ length (marked_from 0 marks) = rw (length-map (pieces size (length positions) behind) value_of, length-pieces size (length positions) behind, p) refl in
+      let count : length found ≡ length (members_from 0 marks) = rw (length-map (pieces size (length positions) behind) value_of, length-pieces size (length positions) behind, p) refl in
       let values : List X = spread (value_of (replicate size 0)) marks found in
-      let kept : chosen marks values ≡ found = chosen-spread (value_of (replicate size 0)) 0 marks found count in
+      let kept : items_where_true marks values ≡ found = items-spread (value_of (replicate size 0)) 0 marks found count in
       let written : flat_map bytes_of found ≡ behind = values_written (length positions) behind h l in
       let are : AllByRecursion IsValue values = All-spread IsValue (value_of (replicate size 0)) marks found filler_is_value (values_read (length positions) behind h (omega arith)) in
-      let whole : (front ++ behind) ≡ names (suc more) ids marks ++ flat_map bytes_of (chosen marks values) = rw (n, kept, written) refl in (
+      let whole : (front ++ behind) ≡ names (suc more) ids marks ++ flat_map bytes_of (items_where_true marks values) = rw (n, kept, written) refl in (
         suc more,
         marks,
         values,
@@ -84,8 +90,8 @@ module _ {X : Type 0} (size : ℕ) (IsValue : X → Type 0) (bytes_of : X → Li
   all_found : (ids text : List ℕ) (es : List (ℕ × X)) → AreBytes text → all_checked size value_of (length ids) text ≡ accepts es → IsWellFormed IsValue bytes_of ids (0 ∷ text) es
   unfolding all_checked names
   all_found ids text es h e =
-      let p : (length text ≡ length ids * size) × (accepts (paired size value_of (count_up 0 (length ids)) text) ≡ accepts es)
-      = has_length 1 (length ids * size) text (Ok (paired size value_of (count_up 0 (length ids)) text)) es e in
+      let p : (length text ≡ length ids * size) × (accepts (paired size value_of (range_with_len 0 (length ids)) text) ≡ accepts es)
+      = has_length 1 (length ids * size) text (Ok (paired size value_of (range_with_len 0 (length ids)) text)) es e in
       let values : List X = map value_of (pieces size (length ids) text) in
       let count : length values ≡ length ids = length-map (pieces size (length ids) text) value_of ∙ length-pieces size (length ids) text in
       let written : flat_map bytes_of values ≡ text = values_written (length ids) text h p.0 in
@@ -94,7 +100,7 @@ module _ {X : Type 0} (size : ℕ) (IsValue : X → Type 0) (bytes_of : X → Li
         replicate (length ids) false,
         values,
         record { is_tag = omega arith; mark_for_each = marks; value_for_each = count; are_values = All-from_recursion IsValue values (values_read (length ids) text h (omega (arith, p.0))); whole = ap (λ behind. 0 ∷ behind) (sym written) },
-        ok_same (paired size value_of (count_up 0 (length ids)) text) es p.1 ∙ rw (marks, length-count_up 0 (length ids)) refl,
+        ok_same (paired size value_of (range_with_len 0 (length ids)) text) es p.1 ∙ rw (marks, length-range_with_len 0 (length ids)) refl,
       )
 
   bits_found : (ids text : List ℕ) (es : List (ℕ × X)) → AreBytes text → bits_checked size value_of (length ids) text ≡ accepts es → IsWellFormed IsValue bytes_of ids (1 ∷ text) es
@@ -104,7 +110,7 @@ module _ {X : Type 0} (size : ℕ) (IsValue : X → Type 0) (bytes_of : X → Li
       let front : List ℕ = take width text in
       let bits : List Bool = unpacked 8 front in
       let marks : List Bool = take (length ids) bits in
-      let positions : List ℕ = marked_from 0 marks in
+      let positions : List ℕ = members_from 0 marks in
       let found : List (ℕ × X) = paired size value_of positions (drop width text) in
       let third : Result (List (ℕ × X)) DecodeFault = if_length 1 (width + length positions * size) text (accepts found) in
       let second : Result (List (ℕ × X)) DecodeFault = cond (list_any (λ bit. bit) (drop (length ids) bits)) (Err PadBits) third in
@@ -136,25 +142,25 @@ module _ {X : Type 0} (size : ℕ) (IsValue : X → Type 0) (bytes_of : X → Li
       let positions : List ℕ = numbers width updated text in
       let found : List (ℕ × X) = paired size value_of positions (drop (updated * width) text) in
       let fourth : Result (List (ℕ × X)) DecodeFault = cond (nat_eq width (width_for (greatest_of positions))) (accepts found) (Err (Width width)) in
-      let third : Result (List (ℕ × X)) DecodeFault = unless_fault (position_fault (length ids) 0 0 positions) fourth in
+      let third : Result (List (ℕ × X)) DecodeFault = unless_fault (position_fault (length ids) positions) fourth in
       let second : Result (List (ℕ × X)) DecodeFault = if_length 2 (updated * (width + size)) text third in
       let p : ((nat_eq width 1 || (nat_eq width 2 || nat_eq width 4)) ≡ true) × (second ≡ accepts es) = passed (nat_eq width 1 || (nat_eq width 2 || nat_eq width 4)) second (Width width) es e in
       let q : (length text ≡ updated * (width + size)) × (third ≡ accepts es) = has_length 2 (updated * (width + size)) text third es p.1 in
-      let r : (position_fault (length ids) 0 0 positions ≡ None) × (fourth ≡ accepts es) = no_fault (position_fault (length ids) 0 0 positions) fourth es q.1 in
+      let r : (position_fault (length ids) positions ≡ None) × (fourth ≡ accepts es) = no_fault (position_fault (length ids) positions) fourth es q.1 in
       let s : (nat_eq width (width_for (greatest_of positions)) ≡ true) × (accepts found ≡ accepts es) = passed (nat_eq width (width_for (greatest_of positions))) (accepts found) (Width width) es r.1 in
       let least : width ≡ width_for (greatest_of positions) = eqb-true width (width_for (greatest_of positions)) s.0 in
-      let rises : Rises 0 positions × AllByRecursion (λ x. x < length ids) positions = rising_from_position_fault (length ids) 0 0 positions r.0 in
-      let all : List ℕ = count_up 0 (length ids) in
+      let rises : Rises 0 positions × AllByRecursion (λ x. x < length ids) positions = rising_from_position_fault (length ids) positions r.0 in
+      let all : List ℕ = range_with_len 0 (length ids) in
       let marks : List Bool = marks_naming all positions in
-      let each : length marks ≡ length ids = length-marks_naming all positions ∙ length-count_up 0 (length ids) in
-      let chose : chosen marks all ≡ positions = chosen-marks_naming 0 0 all positions (Rises-count_up 0 (length ids)) rises.0 (all_among_count_up (length ids) 0 positions rises.1) in
-      let marked : marked_from 0 marks ≡ positions = marked-chosen 0 marks ∙ ap (λ n. chosen marks (count_up 0 n)) each ∙ chose in
+      let each : length marks ≡ length ids = length-marks_naming all positions ∙ length-range_with_len 0 (length ids) in
+      let chose : items_where_true marks all ≡ positions = items-marks_naming 0 0 all positions (Rises-range 0 (length ids)) rises.0 (all_among_range (length ids) 0 positions rises.1) in
+      let marked : members_from 0 marks ≡ positions = members-items 0 marks ∙ ap (λ n. items_where_true marks (range_with_len 0 n)) each ∙ chose in
       let count : length positions ≡ updated = length-map (pieces width updated text) le_number ∙ length-pieces width updated text in
       let bytes : AreBytes text = All-tail (λ b. b < 256) width text h in
       let texts : flat_map (le_bytes width) positions ≡ take (updated * width) text
       = rewritten width (le_bytes width) le_number (le_bytes-le_number width) updated text bytes (omega (arith, q.0)) in
       let front : List ℕ = width ∷ take (updated * width) text in
-      let named : position_text (marked_from 0 marks) ≡ front
+      let named : position_text (members_from 0 marks) ≡ front
       = ap position_text marked ∙ subst (λ w. (w ∷ flat_map (le_bytes w) positions) ≡ front) least (ap (λ more. width ∷ more) texts) in
       let left : length (drop (updated * width) text) ≡ length positions * size = rw count (omega (arith, length-drop (updated * width) text, q.0)) in
       let form_is : IsWellFormed IsValue bytes_of ids (2 ∷ (front ++ drop (updated * width) text)) found
@@ -169,21 +175,21 @@ module _ {X : Type 0} (size : ℕ) (IsValue : X → Type 0) (bytes_of : X → Li
       let ids_named : List ℕ = numbers 4 updated text in
       let positions : List ℕ = map (place_of ids) ids_named in
       let found : List (ℕ × X) = paired size value_of positions (drop (updated * 4) text) in
-      let second : Result (List (ℕ × X)) DecodeFault = unless_fault (id_fault ids 0 0 ids_named) (accepts found) in
+      let second : Result (List (ℕ × X)) DecodeFault = unless_fault (id_fault ids ids_named) (accepts found) in
       let p : (length text ≡ updated * (4 + size)) × (second ≡ accepts es) = has_length 1 (updated * (4 + size)) text second es e in
-      let q : (id_fault ids 0 0 ids_named ≡ None) × (accepts found ≡ accepts es) = no_fault (id_fault ids 0 0 ids_named) (accepts found) es p.1 in
-      let known : Rises 0 ids_named × AllAmong ids ids_named = rising_from_id_fault ids 0 0 ids_named q.0 in
+      let q : (id_fault ids ids_named ≡ None) × (accepts found ≡ accepts es) = no_fault (id_fault ids ids_named) (accepts found) es p.1 in
+      let known : Rises 0 ids_named × AllAmong ids ids_named = rising_from_id_fault ids ids_named q.0 in
       let rises : Rises 0 ids = Rises-from_increasing 0 ids rise (λ some. omega arith) in
       let marks : List Bool = marks_naming ids ids_named in
       let each : length marks ≡ length ids = length-marks_naming ids ids_named in
-      let chose : chosen marks ids ≡ ids_named = chosen-marks_naming 0 0 ids ids_named rises known.0 known.1 in
-      let marked : marked_from 0 marks ≡ positions = sym (places_of_chosen 0 marks ids rises each) ∙ ap (map (place_of ids)) chose in
+      let chose : items_where_true marks ids ≡ ids_named = items-marks_naming 0 0 ids ids_named rises known.0 known.1 in
+      let marked : members_from 0 marks ≡ positions = sym (places_of_items 0 marks ids rises each) ∙ ap (map (place_of ids)) chose in
       let count_ids : length ids_named ≡ updated = length-map (pieces 4 updated text) le_number ∙ length-pieces 4 updated text in
       let count : length positions ≡ updated = length-map ids_named (place_of ids) ∙ count_ids in
       let texts : flat_map (le_bytes 4) ids_named ≡ take (updated * 4) text
       = rewritten 4 (le_bytes 4) le_number (le_bytes-le_number 4) updated text h (omega (arith, p.0)) in
       let front : List ℕ = take (updated * 4) text in
-      let named : flat_map (le_bytes 4) (chosen marks ids) ≡ front = ap (flat_map (le_bytes 4)) chose ∙ texts in
+      let named : flat_map (le_bytes 4) (items_where_true marks ids) ≡ front = ap (flat_map (le_bytes 4)) chose ∙ texts in
       let left : length (drop (updated * 4) text) ≡ length positions * size = rw count (omega (arith, length-drop (updated * 4) text, p.0)) in
       let form_is : IsWellFormed IsValue bytes_of ids (3 ∷ (front ++ drop (updated * 4) text)) found
       = made 2 ids front (drop (updated * 4) text) positions marks (omega arith) each named marked left (All-drop (λ b. b < 256) (updated * 4) text h) in

@@ -10,9 +10,10 @@ use Rattle.std.proofs.lemmas.List.Concat.{flat_map-append}
 use Rattle.std.specs.Int.{bit_at}
 use Rattle.std.proofs.lemmas.Nat.Bits.{bit_at_lowest, bit_at-suc, shr_and_one}
 use Rattle.std.proofs.lemmas.List.{get_or_append_left, get_or-append-add, drop_more, drop_all, take_more, take_all, append-nil, length-take}
-use Rattle.field_encodings.specs.Marks.{bits_of, unpacked, marked_from}
+use Rattle.list_laws.specs.Bits.{bits_of, unpacked}
+use Rattle.list_laws.specs.Members.{members_from}
 use Rattle.field_encodings.specs.Places.{set_from}
-use Rattle.field_encodings.proofs.MarkLemmas.{length-bits_of, length-unpacked}
+use Rattle.list_laws.proofs.Bits.{length-bits_of, length-unpacked}
 
 bit_of : (count k x : ℕ) → k < count → get_or (bits_of count x) k false ≡ nat_eq (bit_at x k) 1
 unfolding bits_of
@@ -44,15 +45,15 @@ from_here bits i l = drop_more (unpacked 8 bits) i false (omega (arith, length-u
 
 pub set_from-set : (bits : List ℕ) (i : ℕ) → i < length bits * 8 → get_or (unpacked 8 bits) i false ≡ true → set_from bits i ≡ i ∷ set_from bits (i + 1)
 unfolding set_from
-set_from-set bits i l e = ap (marked_from i) (from_here bits i l ∙ ap (λ bit. bit ∷ drop (i + 1) (unpacked 8 bits)) e)
+set_from-set bits i l e = ap (members_from i) (from_here bits i l ∙ ap (λ bit. bit ∷ drop (i + 1) (unpacked 8 bits)) e)
 
 pub set_from-unset : (bits : List ℕ) (i : ℕ) → i < length bits * 8 → get_or (unpacked 8 bits) i false ≡ false → set_from bits i ≡ set_from bits (i + 1)
 unfolding set_from
-set_from-unset bits i l e = ap (marked_from i) (from_here bits i l ∙ ap (λ bit. bit ∷ drop (i + 1) (unpacked 8 bits)) e)
+set_from-unset bits i l e = ap (members_from i) (from_here bits i l ∙ ap (λ bit. bit ∷ drop (i + 1) (unpacked 8 bits)) e)
 
 pub set_from-end : (bits : List ℕ) (i : ℕ) → length bits * 8 ≤ i → set_from bits i ≡ []
 unfolding set_from
-set_from-end bits i l = ap (marked_from i) (drop_all i (unpacked 8 bits) (omega (arith, length-unpacked 8 bits)))
+set_from-end bits i l = ap (members_from i) (drop_all i (unpacked 8 bits) (omega (arith, length-unpacked 8 bits)))
 
 -- ---- whether a bit is set from a place on
 
@@ -67,17 +68,17 @@ any_end bits i l = ap (list_any (λ bit. bit)) (drop_all i (unpacked 8 bits) (om
 
 -- ---- how many bits are set
 
-length-marked_any : (first other : ℕ) (marks : List Bool) → length (marked_from first marks) ≡ length (marked_from other marks)
+length-marked_any : (first other : ℕ) (marks : List Bool) → length (members_from first marks) ≡ length (members_from other marks)
 length-marked_any first other [] = refl
 length-marked_any first other (true ∷ marks) = ap suc (length-marked_any (first + 1) (other + 1) marks)
 length-marked_any first other (false ∷ marks) = length-marked_any (first + 1) (other + 1) marks
 
-length-marked_append : (first : ℕ) (marks more : List Bool) → length (marked_from first (marks ++ more)) ≡ length (marked_from first marks) + length (marked_from first more)
+length-marked_append : (first : ℕ) (marks more : List Bool) → length (members_from first (marks ++ more)) ≡ length (members_from first marks) + length (members_from first more)
 length-marked_append first [] more = omega arith
 length-marked_append first (true ∷ marks) more = omega (arith, length-marked_append (first + 1) marks more, length-marked_any (first + 1) first more)
 length-marked_append first (false ∷ marks) more = omega (arith, length-marked_append (first + 1) marks more, length-marked_any (first + 1) first more)
 
-pub length-marked_le : (first : ℕ) (marks : List Bool) → length (marked_from first marks) ≤ length marks
+pub length-marked_le : (first : ℕ) (marks : List Bool) → length (members_from first marks) ≤ length marks
 length-marked_le first [] = omega arith
 length-marked_le first (true ∷ marks) = omega (arith, length-marked_le (first + 1) marks)
 length-marked_le first (false ∷ marks) = omega (arith, length-marked_le (first + 1) marks)
@@ -90,7 +91,7 @@ one_one : count_ones 1 ≡ 1
 unfolding ones
 one_one = refl
 
-bit_counted : (first : ℕ) (bit : Bool) (marks : List Bool) (x : ℕ) → nat_eq (x % 2) 1 ≡ bit → length (marked_from (first + 1) marks) ≡ count_ones (x / 2) → length (marked_from first (bit ∷ marks)) ≡ count_ones x
+bit_counted : (first : ℕ) (bit : Bool) (marks : List Bool) (x : ℕ) → nat_eq (x % 2) 1 ≡ bit → length (members_from (first + 1) marks) ≡ count_ones (x / 2) → length (members_from first (bit ∷ marks)) ≡ count_ones x
 bit_counted first true marks x e rest =
     let odd : x % 2 ≡ 1 = eqb-true (x % 2) 1 e in
     let split : x ≡ x / 2 * 2 + 1 = omega arith in
@@ -104,7 +105,7 @@ bit_counted first false marks x e rest =
     let whole : count_ones x ≡ count_ones (x / 2) + 0 = ap count_ones split ∙ both ∙ ap (λ n. count_ones (x / 2) + n) no_ones in
     omega arith
 
-bits_counted : (first count x : ℕ) → x < 2 ^ count → length (marked_from first (bits_of count x)) ≡ count_ones x
+bits_counted : (first count x : ℕ) → x < 2 ^ count → length (members_from first (bits_of count x)) ≡ count_ones x
 unfolding bits_of
 bits_counted first zero x l = let none : x ≡ 0 = omega arith in sym (ap count_ones none ∙ no_ones)
 bits_counted first (suc count) x l =
@@ -113,17 +114,17 @@ bits_counted first (suc count) x l =
 
 -- one more byte
 pub count_more : (bits : List ℕ) (i : ℕ) → i < length bits → get_or bits i 0 < 256
-    → length (marked_from 0 (unpacked 8 (take (i + 1) bits))) ≡ length (marked_from 0 (unpacked 8 (take i bits))) + count_ones (get_or bits i 0)
+    → length (members_from 0 (unpacked 8 (take (i + 1) bits))) ≡ length (members_from 0 (unpacked 8 (take i bits))) + count_ones (get_or bits i 0)
 count_more bits i l small =
     let front : take (i + 1) bits ≡ take i bits ++ get_or bits i 0 ∷ [] = take_more bits i 0 l in
     let parts : unpacked 8 (take (i + 1) bits) ≡ unpacked 8 (take i bits) ++ (bits_of 8 (get_or bits i 0) ++ []) = ap (unpacked 8) front ∙ flat_map-append (bits_of 8) (take i bits) (get_or bits i 0 ∷ []) in
-    ap (λ marks. length (marked_from 0 marks)) (parts ∙ ap (λ more. unpacked 8 (take i bits) ++ more) (append-nil (bits_of 8 (get_or bits i 0))))
+    ap (λ marks. length (members_from 0 marks)) (parts ∙ ap (λ more. unpacked 8 (take i bits) ++ more) (append-nil (bits_of 8 (get_or bits i 0))))
     ∙ length-marked_append 0 (unpacked 8 (take i bits)) (bits_of 8 (get_or bits i 0))
-    ∙ ap (λ n. length (marked_from 0 (unpacked 8 (take i bits))) + n) (bits_counted 0 8 (get_or bits i 0) small)
+    ∙ ap (λ n. length (members_from 0 (unpacked 8 (take i bits))) + n) (bits_counted 0 8 (get_or bits i 0) small)
 
-pub count_bound : (bits : List ℕ) (i : ℕ) → length (marked_from 0 (unpacked 8 (take i bits))) ≤ i * 8
+pub count_bound : (bits : List ℕ) (i : ℕ) → length (members_from 0 (unpacked 8 (take i bits))) ≤ i * 8
 count_bound bits i = omega (arith, length-marked_le 0 (unpacked 8 (take i bits)), length-unpacked 8 (take i bits), length-take i bits)
 
-pub count_all : (bits : List ℕ) (i : ℕ) → length bits ≤ i → length (marked_from 0 (unpacked 8 (take i bits))) ≡ length (set_from bits 0)
+pub count_all : (bits : List ℕ) (i : ℕ) → length bits ≤ i → length (members_from 0 (unpacked 8 (take i bits))) ≡ length (set_from bits 0)
 unfolding set_from
-count_all bits i l = ap (λ bytes. length (marked_from 0 (unpacked 8 bytes))) (take_all i bits l)
+count_all bits i l = ap (λ bytes. length (members_from 0 (unpacked 8 bytes))) (take_all i bits l)

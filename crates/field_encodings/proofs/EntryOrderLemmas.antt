@@ -1,18 +1,17 @@
 -- The entries of a form rise, are the list's, and have values of words.
 use Rattle.std.proofs.Common.{◌≡◌, ◌<◌, ◌≤◌, ℕ, zero, suc, ◌+◌, Bool, List, [], ◌∷◌, length, map, get_or, sym, ◌∙◌, arith, subst, add-one, Ok, Err, Result}
 use Rattle.std.specs.Prelude.{IfOk}
-use Rattle.std.specs.List.{AllByRecursion, zip}
+use Rattle.std.specs.List.{AllByRecursion, zip, range_with_len}
 use Rattle.std.specs.List.Sorted.{IsStrictlyIncreasing}
 use Rattle.std.proofs.lemmas.List.Elements.{All-from_recursion, recursion_from_All}
 use Rattle.std.proofs.lemmas.Slice.Zip.{firsts-zip}
 use Rattle.field_encodings.specs.declared.decode_fault.DecodeFault.{DecodeFault}
-use Rattle.field_encodings.specs.Numbers.{count_up}
 use Rattle.field_encodings.specs.Forms.{carried, sent, entries, IsForm, IsWellFormed}
 use Rattle.field_encodings.specs.EntryOrder.{AreEntries}
-use Rattle.field_encodings.proofs.NumberLemmas.{length-count_up}
-use Rattle.field_encodings.proofs.Rising.{Rises, Rises-count_up}
-use Rattle.field_encodings.proofs.Lookups.{at_least}
-use Rattle.field_encodings.proofs.Chosen.{length-chosen, All-chosen, Rises-marked, marked_below}
+use Rattle.std.proofs.lemmas.List.FromFn.{length-range_with_len}
+use Rattle.list_laws.specs.Rising.{Rises}
+use Rattle.list_laws.proofs.Rising.{Rises-range, at_least}
+use Rattle.list_laws.proofs.Chosen.{length-items, All-items, Rises-members, members_below}
 
 -- rising lists as the standard library says it
 pub increasing_from_rises : (low : ℕ) (xs : List ℕ) → Rises low xs → IsStrictlyIncreasing xs
@@ -23,7 +22,7 @@ increasing_from_rises low (x ∷ xs) r (suc k) l =
     let moved : get_or xs k 0 < get_or xs (suc k) 0 = rw add-one at later in
     rw add-one moved
 
-count_up_below : (first count limit : ℕ) → first + count ≤ limit → AllByRecursion (λ x. x < limit) (count_up first count)
+count_up_below : (first count limit : ℕ) → first + count ≤ limit → AllByRecursion (λ x. x < limit) (range_with_len first count)
 count_up_below first zero limit l = tt
 count_up_below first (suc count) limit l = (omega arith, count_up_below (first + 1) count limit (omega arith))
 
@@ -39,19 +38,19 @@ all_second P (k ∷ ks) (v ∷ vs) h = (h.0, all_second P ks vs h.1)
 
 carried_below : (tag : ℕ) (marks : List Bool) → AllByRecursion (λ x. x < length marks) (carried tag marks)
 carried_below zero marks = count_up_below 0 (length marks) (length marks) (omega arith)
-carried_below (suc more) marks = marked_below 0 (length marks) marks (omega arith)
+carried_below (suc more) marks = members_below 0 (length marks) marks (omega arith)
 
 carried_rises : (tag : ℕ) (marks : List Bool) → Rises 0 (carried tag marks)
-carried_rises zero marks = Rises-count_up 0 (length marks)
-carried_rises (suc more) marks = Rises-marked 0 marks
+carried_rises zero marks = Rises-range 0 (length marks)
+carried_rises (suc more) marks = Rises-members 0 marks
 
 sent_values : {X : Type 0} (P : X → Type 0) (tag : ℕ) (marks : List Bool) (values : List X) → AllByRecursion P values → AllByRecursion P (sent tag marks values)
 sent_values P zero marks values h = h
-sent_values P (suc more) marks values h = All-chosen P marks values h
+sent_values P (suc more) marks values h = All-items P marks values h
 
 as_many : {X : Type 0} (tag : ℕ) (marks : List Bool) (values : List X) → length values ≡ length marks → length (sent tag marks values) ≡ length (carried tag marks)
-as_many zero marks values e = e ∙ sym (length-count_up 0 (length marks))
-as_many (suc more) marks values e = length-chosen marks values 0 e
+as_many zero marks values e = e ∙ sym (length-range_with_len 0 (length marks))
+as_many (suc more) marks values e = length-items marks values 0 e
 
 module _ {X : Type 0} (IsValue : X → Type 0) (bytes_of : X → List ℕ) (ids bytes : List ℕ) where
   entries_are : (tag : ℕ) (marks : List Bool) (values : List X) → IsForm IsValue bytes_of ids bytes tag marks values → AreEntries IsValue (length ids) (entries tag marks values)

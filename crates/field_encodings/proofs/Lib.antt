@@ -1,7 +1,4 @@
-pub mod Rising
-pub mod NumberLemmas
-pub mod MarkLemmas
-pub mod Chosen
+pub mod Faults
 pub mod ReadBack
 pub mod OneForm
 pub mod FormLength
@@ -14,4 +11,6 @@ pub mod FirstFault
 pub mod ReaderLemmas
 pub mod Shortest
 pub mod Writing
-pub mod BitVector
+pub mod NextUpdated
+pub mod SentTag
+pub mod CarriedValues

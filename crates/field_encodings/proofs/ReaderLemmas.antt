@@ -1,38 +1,40 @@
 -- What each reader's checks come to, branch by branch.
 use Rattle.std.proofs.Common.{◌≡◌, ◌<◌, ◌≤◌, ℕ, zero, suc, ◌+◌, ◌-◌, ◌*◌, ◌/◌, Bool, true, false, List, [], ◌∷◌, ◌++◌, length, take, drop, map, refl, sym, ap, ◌∙◌, arith, subst, inl, inr, Some, None, Ok, Err}
 use Rattle.std.specs.Prelude.{nat_eq, replicate, ◌||◌}
-use Rattle.std.specs.List.{list_any}
+use Rattle.std.specs.List.{list_any, range_with_len}
 use Rattle.std.proofs.lemmas.Bool.{lt-ltb, le-ltb, eq-eqb, ne_eqb}
 use Rattle.std.proofs.lemmas.List.{length-take, length-drop, take-append-drop, length-map, take_rest}
 use Rattle.field_encodings.specs.declared.decode_fault.DecodeFault.{DecodeFault}
 use Rattle.field_encodings.specs.declared.decode_fault.DecodeFault.TheVariants.{Length, Width, PadBits}
-use Rattle.field_encodings.specs.Marks.{marked_from, unpacked, vector_length}
+use Rattle.list_laws.specs.Members.{members_from}
+use Rattle.list_laws.specs.Bits.{unpacked}
+use Rattle.field_encodings.specs.Lengths.{vector_length, greatest_of, width_for}
 use Rattle.std.proofs.lemmas.Nat.{div-add-mod'}
 use Rattle.reduce_laws.specs.WordLaws.{WordLaws}
-use Rattle.field_encodings.specs.Numbers.{numbers, count_up}
-use Rattle.field_encodings.specs.Lengths.{greatest_of, width_for}
-use Rattle.field_encodings.specs.Checks.{paired, position_fault, id_fault, place_of, all_checked, bits_checked, positions_checked, ids_checked}
-use Rattle.field_encodings.specs.Places.{set_from, IsPositionWidth, AreKnown}
-use Rattle.field_encodings.proofs.Rising.{rising_from_id_fault}
-use Rattle.field_encodings.proofs.FirstFault.{length-numbers}
-use Rattle.field_encodings.proofs.MarkLemmas.{none_set}
+use Rattle.list_laws.specs.LittleEndian.{numbers}
+use Rattle.field_encodings.specs.Checks.{paired, position_fault, id_fault, all_checked, bits_checked, positions_checked, ids_checked}
+use Rattle.list_laws.specs.Among.{place_of, AllAmong}
+use Rattle.field_encodings.specs.Places.{set_from, IsPositionWidth}
+use Rattle.field_encodings.proofs.Faults.{rising_from_id_fault}
+use Rattle.list_laws.proofs.WholeNumbers.{length-numbers}
+use Rattle.list_laws.proofs.Bits.{none_set}
 
-marked_padded : (first : ℕ) (marks : List Bool) (spare : ℕ) → marked_from first (marks ++ replicate spare false) ≡ marked_from first marks
+marked_padded : (first : ℕ) (marks : List Bool) (spare : ℕ) → members_from first (marks ++ replicate spare false) ≡ members_from first marks
 marked_padded first [] zero = refl
 marked_padded first [] (suc spare) = nothing_marked (first + 1) spare
   where
-    nothing_marked : (first spare : ℕ) → marked_from first (replicate spare false) ≡ []
+    nothing_marked : (first spare : ℕ) → members_from first (replicate spare false) ≡ []
     nothing_marked first zero = refl
     nothing_marked first (suc spare) = nothing_marked (first + 1) spare
 marked_padded first (true ∷ marks) spare = ap (λ rest. first ∷ rest) (marked_padded (first + 1) marks spare)
 marked_padded first (false ∷ marks) spare = marked_padded (first + 1) marks spare
 
 -- where no bit past the last position is set, the set bits are the marked positions
-pub marked_all : (bits : List ℕ) (count : ℕ) → list_any (λ bit. bit) (drop count (unpacked 8 bits)) ≡ false → set_from bits 0 ≡ marked_from 0 (take count (unpacked 8 bits))
+pub marked_all : (bits : List ℕ) (count : ℕ) → list_any (λ bit. bit) (drop count (unpacked 8 bits)) ≡ false → set_from bits 0 ≡ members_from 0 (take count (unpacked 8 bits))
 unfolding set_from
 marked_all bits count none =
     let all : List Bool = unpacked 8 bits in
-    ap (marked_from 0) (sym (take-append-drop count all) ∙ ap (λ rest. take count all ++ rest) (none_set (drop count all) none))
+    ap (members_from 0) (sym (take-append-drop count all) ∙ ap (λ rest. take count all ++ rest) (none_set (drop count all) none))
     ∙ marked_padded 0 (take count all) (length (drop count all))
 
 module _ {X : Type 0} (size : ℕ) (value_of : List ℕ → X) where
@@ -41,7 +43,7 @@ module _ {X : Type 0} (size : ℕ) (value_of : List ℕ → X) where
   unfolding all_checked
   all_wrong count text other = rw (ne_eqb (length text) (count * size) other) refl
 
-  pub all_right : (count : ℕ) (text : List ℕ) → length text ≡ count * size → all_checked size value_of count text ≡ Ok (paired size value_of (count_up 0 count) text)
+  pub all_right : (count : ℕ) (text : List ℕ) → length text ≡ count * size → all_checked size value_of count text ≡ Ok (paired size value_of (range_with_len 0 count) text)
   unfolding all_checked
   all_right count text same = rw (eq-eqb (length text) (count * size) same) refl
 
@@ -61,8 +63,8 @@ module _ {X : Type 0} (size : ℕ) (value_of : List ℕ → X) where
       none_past : list_any (λ bit. bit) (drop count (unpacked 8 (take (vector_length count) text))) ≡ false
       none_past = subst (λ bytes. list_any (λ bit. bit) (drop count (unpacked 8 bytes)) ≡ false) front none
 
-      set_are : marked_from 0 (take count (unpacked 8 (take (vector_length count) text))) ≡ set_from bits 0
-      set_are = sym (marked_all bits count none ∙ ap (λ bytes. marked_from 0 (take count (unpacked 8 bytes))) front)
+      set_are : members_from 0 (take count (unpacked 8 (take (vector_length count) text))) ≡ set_from bits 0
+      set_are = sym (marked_all bits count none ∙ ap (λ bytes. members_from 0 (take count (unpacked 8 bytes))) front)
 
       pub bits_wrong : (length text ≡ vector_length count + length (set_from bits 0) * size → ⊥)
           → bits_checked size value_of count text ≡ Err (Length (1 + (vector_length count + length (set_from bits 0) * size)) (1 + length text))
@@ -86,15 +88,15 @@ module _ {X : Type 0} (size : ℕ) (value_of : List ℕ → X) where
       unfolding positions_checked
       positions_wrong other = rw (one, ← each, ne_eqb (length text) (left * (width + size)) other) refl
 
-      pub positions_fail : (fault : DecodeFault) → length text ≡ left * (width + size) → position_fault count 0 0 (numbers width left text) ≡ Some fault → positions_checked size value_of count (width ∷ text) ≡ Err fault
+      pub positions_fail : (fault : DecodeFault) → length text ≡ left * (width + size) → position_fault count (numbers width left text) ≡ Some fault → positions_checked size value_of count (width ∷ text) ≡ Err fault
       unfolding positions_checked
       positions_fail fault same fails = rw (one, ← each, eq-eqb (length text) (left * (width + size)) same, fails) refl
 
-      pub positions_wide : length text ≡ left * (width + size) → position_fault count 0 0 (numbers width left text) ≡ None → (width ≡ width_for (greatest_of (numbers width left text)) → ⊥) → positions_checked size value_of count (width ∷ text) ≡ Err (Width width)
+      pub positions_wide : length text ≡ left * (width + size) → position_fault count (numbers width left text) ≡ None → (width ≡ width_for (greatest_of (numbers width left text)) → ⊥) → positions_checked size value_of count (width ∷ text) ≡ Err (Width width)
       unfolding positions_checked
       positions_wide same sound wide = rw (one, ← each, eq-eqb (length text) (left * (width + size)) same, sound, ne_eqb width (width_for (greatest_of (numbers width left text))) wide) refl
 
-      pub positions_right : length text ≡ left * (width + size) → position_fault count 0 0 (numbers width left text) ≡ None → width ≡ width_for (greatest_of (numbers width left text))
+      pub positions_right : length text ≡ left * (width + size) → position_fault count (numbers width left text) ≡ None → width ≡ width_for (greatest_of (numbers width left text))
           → positions_checked size value_of count (width ∷ text) ≡ Ok (paired size value_of (numbers width left text) (drop (left * width) text))
       unfolding positions_checked
       positions_right same sound least = rw (one, ← each, eq-eqb (length text) (left * (width + size)) same, sound, eq-eqb width (width_for (greatest_of (numbers width left text))) least) refl
@@ -105,11 +107,11 @@ module _ {X : Type 0} (size : ℕ) (value_of : List ℕ → X) where
     unfolding ids_checked
     ids_wrong other = rw (← each, ne_eqb (length text) (left * (4 + size)) other) refl
 
-    pub ids_fail : (fault : DecodeFault) → length text ≡ left * (4 + size) → id_fault ids 0 0 (numbers 4 left text) ≡ Some fault → ids_checked size value_of ids text ≡ Err fault
+    pub ids_fail : (fault : DecodeFault) → length text ≡ left * (4 + size) → id_fault ids (numbers 4 left text) ≡ Some fault → ids_checked size value_of ids text ≡ Err fault
     unfolding ids_checked
     ids_fail fault same fails = rw (← each, eq-eqb (length text) (left * (4 + size)) same, fails) refl
 
-    pub ids_right : length text ≡ left * (4 + size) → id_fault ids 0 0 (numbers 4 left text) ≡ None
+    pub ids_right : length text ≡ left * (4 + size) → id_fault ids (numbers 4 left text) ≡ None
         → ids_checked size value_of ids text ≡ Ok (paired size value_of (map (place_of ids) (numbers 4 left text)) (drop (left * 4) text))
     unfolding ids_checked
     ids_right same sound = rw (← each, eq-eqb (length text) (left * (4 + size)) same, sound) refl
@@ -154,9 +156,8 @@ module _ (word size : ℕ) (is_size : word ≡ size) (text : List ℕ) where
   ids_enough ids e =
       rw (length-map (numbers 4 (length text / (4 + word)) text) (place_of ids), length-numbers 4 (length text / (4 + word)) text, behind_names 4 size (length text / (4 + word)) text (whole_text 4 e)) (omega arith)
 
-pub known_from_check : (ids named : List ℕ) → id_fault ids 0 0 named ≡ None → AreKnown ids named
-unfolding AreKnown
-known_from_check ids named sound = (rising_from_id_fault ids 0 0 named sound).1
+pub known_from_check : (ids named : List ℕ) → id_fault ids named ≡ None → AllAmong ids named
+known_from_check ids named sound = (rising_from_id_fault ids named sound).1
 
 -- what follows the names, as `&text[start..]` cuts it
 pub cut_behind : (start : ℕ) (text : List ℕ) → take (length text - start) (drop start text) ≡ drop start text

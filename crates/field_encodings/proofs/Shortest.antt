@@ -5,7 +5,7 @@ use Rattle.std.proofs.lemmas.Bool.{cond_both}
 use borrow.Rule.Slice.PartMut.{put_mid}
 use Rattle.std.proofs.lemmas.List.{drop_all, append-nil}
 use Rattle.std.specs.List.{flat_map}
-use Rattle.field_encodings.specs.Numbers.{le_bytes}
+use Rattle.list_laws.specs.LittleEndian.{le_bytes}
 use Rattle.field_encodings.specs.Forms.{position_text}
 use Rattle.field_encodings.specs.Lengths.{greatest_of, width_for, form_length, IsShortest, IsSentTag}
 
@@ -15,6 +15,13 @@ unfolding width_for
 width_for-le number =
     cond_both (nat_lt number 256) 1 (cond (nat_lt number 65536) 2 4) (λ w. w ≤ 4) (λ _. omega arith)
     (λ _. cond_both (nat_lt number 65536) 2 4 (λ w. w ≤ 4) (λ _. omega arith) (λ _. omega arith))
+
+-- and one of three widths: so it is four where it is none of the others
+pub width_is_four : (number width : ℕ) → width ≡ width_for number → (width ≡ 1 → ⊥) → (width ≡ 2 → ⊥) → width ≡ 4
+unfolding width_for
+width_is_four number width =
+    cond_both (nat_lt number 256) 1 (cond (nat_lt number 65536) 2 4) (λ w. width ≡ w → (width ≡ 1 → ⊥) → (width ≡ 2 → ⊥) → width ≡ 4) (λ _ e one two. absurd (one e))
+    (λ _. cond_both (nat_lt number 65536) 2 4 (λ w. width ≡ w → (width ≡ 1 → ⊥) → (width ≡ 2 → ⊥) → width ≡ 4) (λ _ e one two. absurd (two e)) (λ _ e one two. e))
 
 -- four numbers in a row
 four_at : (f : ℕ → ℕ) (k : ℕ) → k < 4 → get_or (f 0 ∷ f 1 ∷ f 2 ∷ f 3 ∷ []) k 0 ≡ f k
@@ -74,3 +81,13 @@ sent_fits n m u greatest s size tag len room one same few sent e r =
 pub same_length : (n m u greatest s size tag : ℕ) → n ≡ m → s ≡ size → form_length n u greatest s tag ≡ form_length m u greatest size tag
 same_length n m u greatest s size tag one same =
     ap (λ z. form_length z u greatest s tag) one ∙ ap (λ z. form_length m u greatest z tag) same
+
+-- a sent tag is one of the four
+pub sent_is_tag : (n u greatest size tag : ℕ) → IsSentTag n u greatest size tag → tag ≤ 3
+sent_is_tag zero u greatest size tag s = omega (arith, s.empty refl)
+sent_is_tag (suc n) u greatest size tag s = (s.shortest (omega arith)).is_tag
+
+-- a sent tag goes by the numbers alone
+pub sent_moved : (n u v greatest g size tag : ℕ) → u ≡ v → greatest ≡ g → IsSentTag n u greatest size tag → IsSentTag n v g size tag
+sent_moved n u v greatest g size tag one same s =
+    subst (λ z. IsSentTag n v z size tag) same (subst (λ z. IsSentTag n z greatest size tag) one s)

@@ -1,15 +1,15 @@
 -- One step over what is still to come.
 use Rattle.std.proofs.Common.{◌≡◌, ◌<◌, ℕ, zero, suc, ◌+◌, ◌-◌, ◌*◌, List, ◌∷◌, length, take, drop, map, refl, sym, ap, ◌∙◌, arith, subst}
-use Rattle.field_encodings.specs.Numbers.{le_number, pieces, numbers, count_up}
-use Rattle.field_encodings.specs.Places.{AreKnown}
+use Rattle.list_laws.specs.LittleEndian.{le_number, pieces, numbers}
+use Rattle.std.specs.List.{range_with_len, list_any}
+use Rattle.list_laws.specs.Among.{AllAmong}
 use Rattle.std.specs.Prelude.{Bool, true, false, nat_eq, Option, Some, None, MatchOption, IsSome}
 use Rattle.std.proofs.Math.Nat.{zero-mul}
 use Rattle.std.proofs.lemmas.List.{take_rest}
-use Rattle.std.specs.List.{list_any}
 
-pub count_up-step : (next left : ℕ) → 0 < left → count_up next left ≡ next ∷ count_up (next + 1) (left - 1)
+pub count_up-step : (next left : ℕ) → 0 < left → range_with_len next left ≡ next ∷ range_with_len (next + 1) (left - 1)
 count_up-step next zero l = absurd (omega arith)
-count_up-step next (suc left) l = ap (λ n. next ∷ count_up (next + 1) n) (omega arith)
+count_up-step next (suc left) l = ap (λ n. next ∷ range_with_len (next + 1) n) (omega arith)
 
 pub pieces-step : (size left : ℕ) (text : List ℕ) → 0 < left → pieces size left text ≡ take size text ∷ pieces size (left - 1) (drop size text)
 pieces-step size zero text l = absurd (omega arith)
@@ -18,9 +18,8 @@ pieces-step size (suc left) text l = ap (λ n. take size text ∷ pieces size n 
 pub numbers-step : (size left : ℕ) (text : List ℕ) → 0 < left → numbers size left text ≡ le_number (take size text) ∷ numbers size (left - 1) (drop size text)
 numbers-step size left text l = ap (map le_number) (pieces-step size left text l)
 
-pub known-step : (ids : List ℕ) (size left : ℕ) (text : List ℕ) → 0 < left → AreKnown ids (numbers size left text)
-    → (list_any (λ other. nat_eq other (le_number (take size text))) ids ≡ true) × AreKnown ids (numbers size (left - 1) (drop size text))
-unfolding AreKnown
+pub known-step : (ids : List ℕ) (size left : ℕ) (text : List ℕ) → 0 < left → AllAmong ids (numbers size left text)
+    → (list_any (λ other. nat_eq other (le_number (take size text))) ids ≡ true) × AllAmong ids (numbers size (left - 1) (drop size text))
 known-step ids size left text l h = rw (numbers-step size left text l) at h
 
 -- the text behind the first number, as `&text[size..]` cuts it
@@ -33,15 +32,15 @@ numbers-cut size left text l =
     ∙ ap (λ rest. le_number (take size text) ∷ numbers size (left - 1) rest) (sym (behind_first size text))
     ∙ ap (λ n. le_number (take size (drop n text)) ∷ numbers size (left - 1) (take (length text - size) (drop size text))) (sym (zero-mul size))
 
-pub first_known : (ids : List ℕ) (size left : ℕ) (text : List ℕ) → 0 < left → AreKnown ids (numbers size left text)
+pub first_known : (ids : List ℕ) (size left : ℕ) (text : List ℕ) → 0 < left → AllAmong ids (numbers size left text)
     → list_any (λ other. nat_eq other (le_number (take size (drop (0 * size) text)))) ids ≡ true
 first_known ids size left text l h =
     subst (λ n. list_any (λ other. nat_eq other (le_number (take size (drop n text)))) ids ≡ true) (sym (zero-mul size)) (known-step ids size left text l h).0
 
-pub others_known : (ids : List ℕ) (size left : ℕ) (text : List ℕ) → 0 < left → AreKnown ids (numbers size left text)
-    → AreKnown ids (numbers size (left - 1) (take (length text - size) (drop size text)))
+pub others_known : (ids : List ℕ) (size left : ℕ) (text : List ℕ) → 0 < left → AllAmong ids (numbers size left text)
+    → AllAmong ids (numbers size (left - 1) (take (length text - size) (drop size text)))
 others_known ids size left text l h =
-    subst (λ rest. AreKnown ids (numbers size (left - 1) rest)) (sym (behind_first size text)) (known-step ids size left text l h).1
+    subst (λ rest. AllAmong ids (numbers size (left - 1) rest)) (sym (behind_first size text)) (known-step ids size left text l h).1
 
 -- a look-up that fails found nothing
 pub is_found : (answer : Option ℕ) (known : Bool) (P : ℕ → Type 0) → known ≡ true → MatchOption answer (known ≡ false) P → IsSome answer

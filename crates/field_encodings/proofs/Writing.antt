@@ -1,55 +1,41 @@
--- What a pass over the positions of a list keeps: what is written so far, followed by what the rest
--- asks for, is the whole.
-use Rattle.std.specs.Prelude.{◌≡◌, ◌≤◌, ◌<◌, ◌+◌, ◌*◌, ◌/◌, ℕ, zero, suc, Bool, true, false, List, [], ◌∷◌, ◌++◌, length, take, drop, slice_get, Some, refl}
+-- What a pass over the updated positions of a list keeps: what is written so far, followed by what the
+-- rest asks for, is the whole.
+use Rattle.std.specs.Prelude.{◌≡◌, ◌≤◌, ◌<◌, ◌+◌, ◌*◌, ℕ, zero, suc, Bool, List, [], ◌∷◌, ◌++◌, length, take, drop, slice_get, Option, Some, None, IsSome, refl}
 use Rattle.std.specs.List.{flat_map, All}
-use Rattle.std.specs.Int.{w32, to_le_bytes}
 use Rattle.std.proofs.Common.{arith, get_or, sym, ap, subst, ◌∙◌, append_assoc}
-use Rattle.std.proofs.lemmas.List.{drop_more, drop_all, take_all, append-nil}
-use Rattle.std.proofs.lemmas.List.Elements.{All-get_or}
-use Rattle.field_encodings.specs.Numbers.{le_bytes}
-use Rattle.field_encodings.specs.Marks.{marked_from, chosen}
+use Rattle.std.proofs.lemmas.List.{drop_more, drop_all, take_all, append-nil, length-map, nil_from_length}
+use Rattle.std.proofs.lemmas.List.Elements.{All-head, All-tail}
+use Rattle.list_laws.specs.Members.{has_member, members, IsLeastMemberSince, IsNextMember}
+use Rattle.list_laws.proofs.Members.{members_since, members_since-next, members_since-none, IsMember-lt-length}
+use Rattle.list_laws.proofs.Places.{element_at}
+use Rattle.list_laws.proofs.Since.{items_since, items_since-next, items_since-none}
 use Rattle.field_encodings.specs.Lists.{marks_at, values_at}
 
--- the lowest bytes of a number of four bytes
-pub take-to_le_bytes : (width number : ℕ) → width ≤ 4 → take width (to_le_bytes w32 number) ≡ le_bytes width number
-unfolding le_bytes
-take-to_le_bytes zero x h = refl
-take-to_le_bytes (suc zero) x h = refl
-take-to_le_bytes (suc (suc zero)) x h = refl
-take-to_le_bytes (suc (suc (suc zero))) x h =
-    let third : x / 65536 ≡ x / 256 / 256 = omega arith in rw third refl
-take-to_le_bytes (suc (suc (suc (suc zero)))) x h =
-    let third : x / 65536 ≡ x / 256 / 256 = omega arith in
-    let fourth : x / 16777216 ≡ x / 256 / 256 / 256 = omega arith in rw (third, fourth) refl
-take-to_le_bytes (suc (suc (suc (suc (suc more))))) x h = absurd (omega arith)
-
--- ---- what the rest asks for
-
--- the marks from a position on
-pub marks_at-drop : (bits : List Bool) (locals : List ℕ) (i : ℕ) → i < length locals → marks_at bits (drop i locals) ≡ get_or bits (get_or locals i 0) false ∷ marks_at bits (drop (i + 1) locals)
-marks_at-drop bits locals i h = ap (λ l. marks_at bits l) (drop_more locals i 0 h)
-
--- the updated positions from one on, that is updated
-pub marked-yes : (bits : List Bool) (locals : List ℕ) (i : ℕ) → i < length locals → get_or bits (get_or locals i 0) false ≡ true → marked_from i (marks_at bits (drop i locals)) ≡ i ∷ marked_from (i + 1) (marks_at bits (drop (i + 1) locals))
-marked-yes bits locals i h m =
-    ap (λ marks. marked_from i marks) (marks_at-drop bits locals i h)
-    ∙ ap (λ mark. marked_from i (mark ∷ marks_at bits (drop (i + 1) locals))) m
-
--- and from one on, that is not
-pub marked-no : (bits : List Bool) (locals : List ℕ) (i : ℕ) → i < length locals → get_or bits (get_or locals i 0) false ≡ false → marked_from i (marks_at bits (drop i locals)) ≡ marked_from (i + 1) (marks_at bits (drop (i + 1) locals))
-marked-no bits locals i h m =
-    ap (λ marks. marked_from i marks) (marks_at-drop bits locals i h)
-    ∙ ap (λ mark. marked_from i (mark ∷ marks_at bits (drop (i + 1) locals))) m
-
--- past the last position there is none
-pub marked-end : (bits : List Bool) (locals : List ℕ) (i : ℕ) → length locals ≤ i → marked_from i (marks_at bits (drop i locals)) ≡ []
-marked-end bits locals i h = ap (λ l. marked_from i (marks_at bits l)) (drop_all i locals h)
+-- ---- values of a list
 
 -- an element that is read is there
 slice_get-read : {X : Type 0} (xs : List X) (i : ℕ) (x : X) → i < length xs → x ≡ get_or xs i x → slice_get xs i ≡ Some x
 slice_get-read [] i x h e = absurd (omega arith)
 slice_get-read (y ∷ xs) zero x h e = ap (λ z. Some z) (sym e)
 slice_get-read (y ∷ xs) (suc i) x h e = slice_get-read xs i x (omega arith) e
+
+-- there is a value for each position
+pub length-values_at : {X : Type 0} (values : List X) (locals : List ℕ) → All (λ local. local < length values) locals → length (values_at values locals) ≡ length locals
+length-values_at values [] h = refl
+length-values_at values (local ∷ locals) h =
+    let here = element_at values local (All-head (λ local. local < length values) local locals h) in
+    rw here.1 (ap suc (length-values_at values locals (All-tail (λ local. local < length values) local locals h)))
+
+-- the value at a position, which was read
+pub value_here : {X : Type 0} (values : List X) (locals : List ℕ) (m : ℕ) (x : X) → All (λ local. local < length values) locals → m < length locals → x ≡ get_or values (get_or locals m 0) x
+    → get_or (values_at values locals) m x ≡ x
+value_here values [] m x h l e = absurd (omega arith)
+value_here values (local ∷ locals) zero x h l e =
+    let here : slice_get values local ≡ Some x = slice_get-read values local x (All-head (λ local. local < length values) local locals h) e in
+    rw here refl
+value_here values (local ∷ locals) (suc m) x h l e =
+    let here = element_at values local (All-head (λ local. local < length values) local locals h) in
+    rw here.1 (value_here values locals m x (All-tail (λ local. local < length values) local locals h) (omega arith) e)
 
 -- the values from a position on, whose value was read
 pub values_at-drop : {X : Type 0} (values : List X) (locals : List ℕ) (i : ℕ) (x : X) → i < length locals → get_or locals i 0 < length values → x ≡ get_or values (get_or locals i 0) x → values_at values (drop i locals) ≡ x ∷ values_at values (drop (i + 1) locals)
@@ -60,41 +46,6 @@ values_at-drop values locals i x h l e =
 -- past the last position there is none
 pub values_at-end : {X : Type 0} (values : List X) (locals : List ℕ) (i : ℕ) → length locals ≤ i → values_at values (drop i locals) ≡ []
 values_at-end values locals i h = ap (λ l. values_at values l) (drop_all i locals h)
-
--- some element is there
-slice_get-some : {X : Type 0} (xs : List X) (i : ℕ) → i < length xs → (x : X) × (slice_get xs i ≡ Some x)
-slice_get-some [] i h = absurd (omega arith)
-slice_get-some (y ∷ xs) zero h = (y, refl)
-slice_get-some (y ∷ xs) (suc i) h = slice_get-some xs i (omega arith)
-
--- what is chosen from a position on, that is updated and whose value was read
-pub chosen-yes : {X : Type 0} (bits : List Bool) (values : List X) (locals : List ℕ) (i : ℕ) (x : X) → i < length locals → get_or locals i 0 < length values → get_or bits (get_or locals i 0) false ≡ true → x ≡ get_or values (get_or locals i 0) x → chosen (marks_at bits (drop i locals)) (values_at values (drop i locals)) ≡ x ∷ chosen (marks_at bits (drop (i + 1) locals)) (values_at values (drop (i + 1) locals))
-chosen-yes bits values locals i x h l m e =
-    rw (marks_at-drop bits locals i h, m, values_at-drop values locals i x h l e) refl
-
--- and from one on, that is not
-pub chosen-no : {X : Type 0} (bits : List Bool) (values : List X) (locals : List ℕ) (i : ℕ) → i < length locals → get_or locals i 0 < length values → get_or bits (get_or locals i 0) false ≡ false → chosen (marks_at bits (drop i locals)) (values_at values (drop i locals)) ≡ chosen (marks_at bits (drop (i + 1) locals)) (values_at values (drop (i + 1) locals))
-chosen-no bits values locals i h l m =
-    let here = slice_get-some values (get_or locals i 0) l in
-    let rest : values_at values (drop i locals) ≡ here.0 ∷ values_at values (drop (i + 1) locals) =
-    ap (λ l. values_at values l) (drop_more locals i 0 h) ∙ rw (here.1) refl in
-    rw (marks_at-drop bits locals i h, m, rest) refl
-
--- past the last position nothing is chosen
-pub chosen-end : {X : Type 0} (bits : List Bool) (values : List X) (locals : List ℕ) (i : ℕ) → length locals ≤ i → chosen (marks_at bits (drop i locals)) (values_at values (drop i locals)) ≡ []
-chosen-end bits values locals i h = ap (λ l. chosen (marks_at bits l) (values_at values l)) (drop_all i locals h)
-
--- the ids from a position on, that is updated
-pub ids-yes : (bits : List Bool) (ids locals : List ℕ) (i : ℕ) → i < length locals → i < length ids → get_or bits (get_or locals i 0) false ≡ true → chosen (marks_at bits (drop i locals)) (drop i ids) ≡ get_or ids i 0 ∷ chosen (marks_at bits (drop (i + 1) locals)) (drop (i + 1) ids)
-ids-yes bits ids locals i h l m = rw (marks_at-drop bits locals i h, m, drop_more ids i 0 l) refl
-
--- and from one on, that is not
-pub ids-no : (bits : List Bool) (ids locals : List ℕ) (i : ℕ) → i < length locals → i < length ids → get_or bits (get_or locals i 0) false ≡ false → chosen (marks_at bits (drop i locals)) (drop i ids) ≡ chosen (marks_at bits (drop (i + 1) locals)) (drop (i + 1) ids)
-ids-no bits ids locals i h l m = rw (marks_at-drop bits locals i h, m, drop_more ids i 0 l) refl
-
--- past the last position there is none
-pub ids-end : (bits : List Bool) (ids locals : List ℕ) (i : ℕ) → length locals ≤ i → chosen (marks_at bits (drop i locals)) (drop i ids) ≡ []
-ids-end bits ids locals i h = ap (λ l. chosen (marks_at bits l) (drop i ids)) (drop_all i locals h)
 
 -- ---- one piece more
 
@@ -127,27 +78,66 @@ IsWrittenTo-piece write size s k text new whole x rest xs same e n w =
     IsWrittenTo-next write (k * size) ((k + 1) * size) text new whole x rest xs e
     (subst (λ z. take z new ≡ take (k * size) text ++ write x) sum there) w
 
--- nothing is written where nothing is asked for
-pub IsWrittenTo-same : {X : Type 0} (write : X → List ℕ) (at : ℕ) (text whole : List ℕ) (rest xs : List X) → rest ≡ xs → IsWrittenTo write at text rest whole → IsWrittenTo write at text xs whole
-IsWrittenTo-same write at text whole rest xs e w = subst (λ l. IsWrittenTo write at text l whole) e w
+-- ---- from one updated position to the next
 
--- ---- the updated values
+-- while fewer are written than there are, there is a next one
+pub is_left : (marks : List Bool) (place written count : ℕ) (answer : Option ℕ) → written + length (members_since marks place) ≡ count → written < count → IsNextMember marks place answer → IsSome answer
+is_left marks place written count None left more none = absurd (omega (arith, ap length (members_since-none marks place none)))
+is_left marks place written count (Some m) left more next = refl
 
--- the updated values so far are written, k of them
-abbrev pub AreSentTo : {X : Type 0} → (X → List ℕ) → (size : ℕ) → List Bool → List X → List ℕ → (i k : ℕ) → (text : List ℕ) → Type 0
-AreSentTo write size bits values locals i k text =
-    IsWrittenTo write (k * size) text (chosen (marks_at bits (drop i locals)) (values_at values (drop i locals))) (flat_map write (chosen (marks_at bits locals) (values_at values locals)))
+-- the one that is found
+pub is_next : (marks : List Bool) (place m : ℕ) (answer : Option ℕ) → answer ≡ Some m → IsNextMember marks place answer → IsLeastMemberSince marks place m
+is_next marks place m answer e next = subst (IsNextMember marks place) e next
 
--- one more is written
-pub AreSentTo-yes : {X : Type 0} (write : X → List ℕ) (size s : ℕ) (bits : List Bool) (values : List X) (locals : List ℕ) (i k : ℕ) (text new : List ℕ) (x : X) → i < length locals → All (λ local. local < length values) locals → get_or bits (get_or locals i 0) false ≡ true → x ≡ get_or values (get_or locals i 0) x → s ≡ size → take (k * s + size) new ≡ take (k * s) text ++ write x → AreSentTo write size bits values locals i k text → AreSentTo write size bits values locals (i + 1) (k + 1) new
-AreSentTo-yes write size s bits values locals i k text new x h all m e same n w =
-    IsWrittenTo-piece write size s k text new (flat_map write (chosen (marks_at bits locals) (values_at values locals))) x
-    (chosen (marks_at bits (drop i locals)) (values_at values (drop i locals))) (chosen (marks_at bits (drop (i + 1) locals)) (values_at values (drop (i + 1) locals)))
-    same (chosen-yes bits values locals i x h (All-get_or (λ local. local < length values) locals i 0 h all) m e) n w
+-- when all are written none is left
+pub none_left : (marks : List Bool) (place written count : ℕ) → written + length (members_since marks place) ≡ count → count ≤ written → members_since marks place ≡ []
+none_left marks place written count left all = nil_from_length (members_since marks place) (omega arith)
 
--- a position that is not updated has none
-pub AreSentTo-no : {X : Type 0} (write : X → List ℕ) (size : ℕ) (bits : List Bool) (values : List X) (locals : List ℕ) (i k : ℕ) (text : List ℕ) → i < length locals → All (λ local. local < length values) locals → get_or bits (get_or locals i 0) false ≡ false → AreSentTo write size bits values locals i k text → AreSentTo write size bits values locals (i + 1) k text
-AreSentTo-no write size bits values locals i k text h all m w =
-    IsWrittenTo-same write (k * size) text (flat_map write (chosen (marks_at bits locals) (values_at values locals)))
-    (chosen (marks_at bits (drop i locals)) (values_at values (drop i locals))) (chosen (marks_at bits (drop (i + 1) locals)) (values_at values (drop (i + 1) locals)))
-    (chosen-no bits values locals i h (All-get_or (λ local. local < length values) locals i 0 h all) m) w
+-- what every pass keeps: how many are left, and that their values are to be written behind
+pub record AreSentTo {X : Type 0} (write : X → List ℕ) (size : ℕ) (bits : List Bool) (values : List X) (locals : List ℕ) (count place written : ℕ) (text : List ℕ) : Type 0 where
+  pub left : written + length (members_since (marks_at bits locals) place) ≡ count
+  pub within : place ≤ length locals
+  pub sent : IsWrittenTo write (written * size) text (items_since (marks_at bits locals) (values_at values locals) place) (flat_map write (items_since (marks_at bits locals) (values_at values locals) 0))
+
+-- at first nothing is written
+pub AreSentTo-start : {X : Type 0} (write : X → List ℕ) (size : ℕ) (bits : List Bool) (values : List X) (locals : List ℕ) (count : ℕ) (text : List ℕ) → count ≡ length (members (marks_at bits locals)) → AreSentTo write size bits values locals count 0 0 text
+AreSentTo-start write size bits values locals count text e =
+    let none : 0 * size ≡ 0 = omega arith in record {
+      left = omega arith;
+      within = omega arith;
+      sent = ap (λ n. take n text ++ flat_map write (items_since (marks_at bits locals) (values_at values locals) 0)) none;
+    }
+
+-- all of a text is written, where all pieces have one size
+pub written_whole : {X : Type 0} (write : X → List ℕ) (size written count : ℕ) (text whole : List ℕ) (rest : List X) → rest ≡ [] → written ≡ count → length text ≡ count * size → IsWrittenTo write (written * size) text rest whole → text ≡ whole
+written_whole write size written count text whole rest none all long w =
+    IsWrittenTo-end write (written * size) text whole rest none (omega (arith, ap (λ n. n * size) all)) w
+
+-- one position more: its value is written
+pub AreSentTo-next : {X : Type 0} (write : X → List ℕ) (size s : ℕ) (bits : List Bool) (values : List X) (locals : List ℕ) (count place written m : ℕ) (text new : List ℕ) (x : X) → All (λ local. local < length values) locals
+    → IsLeastMemberSince (marks_at bits locals) place m → x ≡ get_or values (get_or locals m 0) x → s ≡ size → take (written * s + size) new ≡ take (written * s) text ++ write x
+    → AreSentTo write size bits values locals count place written text → AreSentTo write size bits values locals count (m + 1) (written + 1) new
+AreSentTo-next write size s bits values locals count place written m text new x has next e same n so_far =
+    let marks : List Bool = marks_at bits locals in
+    let each : length marks ≡ length locals = length-map locals (has_member bits) in
+    let inside : m < length locals = omega (arith, IsMember-lt-length marks m next.member) in
+    let here : get_or (values_at values locals) m x ≡ x = value_here values locals m x has inside e in
+    record {
+      left = omega (arith, so_far.left, ap length (members_since-next marks place m next));
+      within = omega arith;
+      sent = IsWrittenTo-piece write size s written text new (flat_map write (items_since marks (values_at values locals) 0)) x
+          (items_since marks (values_at values locals) place) (items_since marks (values_at values locals) (m + 1)) same
+          (items_since-next x marks (values_at values locals) place m (length-values_at values locals has ∙ sym each) next
+          ∙ ap (λ y. y ∷ items_since marks (values_at values locals) (m + 1)) here)
+          n so_far.sent;
+    }
+
+-- at the end all values are written
+pub AreSentTo-end : {X : Type 0} (write : X → List ℕ) (size : ℕ) (bits : List Bool) (values : List X) (locals : List ℕ) (count place written : ℕ) (text : List ℕ) → All (λ local. local < length values) locals → count ≤ written → length text ≡ count * size
+    → AreSentTo write size bits values locals count place written text → text ≡ flat_map write (items_since (marks_at bits locals) (values_at values locals) 0)
+AreSentTo-end write size bits values locals count place written text has all long so_far =
+    let marks : List Bool = marks_at bits locals in
+    let none : members_since marks place ≡ [] = none_left marks place written count so_far.left all in
+    written_whole write size written count text (flat_map write (items_since marks (values_at values locals) 0)) (items_since marks (values_at values locals) place)
+    (items_since-none marks (values_at values locals) place (length-values_at values locals has ∙ sym (length-map locals (has_member bits))) none)
+    (omega (arith, so_far.left)) long so_far.sent

@@ -1,10 +1,15 @@
 -- The four forms of a packet as whole lists of bytes, and the entries that a form carries. A list has
 -- its global ids, a mark for each position, true where it is updated, and a value for each position.
 use Rattle.std.specs.Prelude.{◌≡◌, ◌≤◌, ℕ, zero, suc, Bool, List, [], ◌∷◌, ◌++◌, length}
-use Rattle.std.specs.List.{flat_map, zip, All}
-use Rattle.field_encodings.specs.Numbers.{le_bytes, count_up}
-use Rattle.field_encodings.specs.Marks.{chosen, marked_from, bit_vector}
-use Rattle.field_encodings.specs.Lengths.{width_for, greatest_of}
+use Rattle.std.specs.List.{flat_map, zip, All, range_with_len, items_where_true}
+use Rattle.list_laws.specs.LittleEndian.{le_bytes}
+use Rattle.list_laws.specs.Members.{members_from}
+use Rattle.list_laws.specs.Bits.{packed}
+use Rattle.field_encodings.specs.Lengths.{width_for, greatest_of, vector_length}
+
+-- the marks as a bit vector: position i is bit i mod 8 of byte i / 8
+abbrev pub bit_vector : List Bool → List ℕ
+bit_vector marks = packed 8 (vector_length (length marks)) marks
 
 -- rising positions behind the width that they are written in
 abbrev pub position_text : List ℕ → List ℕ
@@ -16,18 +21,18 @@ position_text positions =
 unfoldable pub names : (tag : ℕ) → List ℕ → List Bool → List ℕ
 names zero ids marks = []
 names (suc zero) ids marks = bit_vector marks
-names (suc (suc zero)) ids marks = position_text (marked_from 0 marks)
-names (suc (suc (suc more))) ids marks = flat_map (le_bytes 4) (chosen marks ids)
+names (suc (suc zero)) ids marks = position_text (members_from 0 marks)
+names (suc (suc (suc more))) ids marks = flat_map (le_bytes 4) (items_where_true marks ids)
 
 -- the positions that a form carries
 abbrev pub carried : (tag : ℕ) → List Bool → List ℕ
-carried zero marks = count_up 0 (length marks)
-carried (suc more) marks = marked_from 0 marks
+carried zero marks = range_with_len 0 (length marks)
+carried (suc more) marks = members_from 0 marks
 
 -- the values that a form carries
 abbrev pub sent : {X : Type 0} → (tag : ℕ) → List Bool → List X → List X
 sent zero marks values = values
-sent (suc more) marks values = chosen marks values
+sent (suc more) marks values = items_where_true marks values
 
 -- the form of a tag, for values whose bytes are given
 abbrev pub form : {X : Type 0} → (X → List ℕ) → (tag : ℕ) → List ℕ → List Bool → List X → List ℕ

@@ -1,7 +1,6 @@
-pub mod Numbers
-pub mod Marks
 pub mod Lengths
 pub mod Forms
+pub mod Packets
 pub mod Checks
 pub mod Laws
 pub mod Lists

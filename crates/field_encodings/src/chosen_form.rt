@@ -1,3 +1,4 @@
+//! Chooses the form that is sent.
 ghost use Rattle.std.specs.Prelude.{◌≡◌, ◌<◌, ◌≤◌, ℕ, length, slice_index};
 ghost use Rattle.reduce_laws.specs.WordLaws.{IsWordWidth};
 ghost use Rattle.field_encodings.specs.Lengths.{form_length, IsSentTag};
@@ -6,7 +7,7 @@ use crate::coded::Coded;
 use crate::length_table::lengths;
 use graph_model::MAX_NODES;
 
-// The place of the least of four numbers, the first on a tie.
+/// The place of the least of four numbers, the first on a tie.
 fn first_least(numbers: &[u64]) -> u8
     requires { length numbers.now ≡ 4 }
     ensures within { result < 4 }
@@ -22,9 +23,9 @@ fn first_least(numbers: &[u64]) -> u8
     best
 }
 
-// The tag that is sent for a list of `n` positions, `u` of them updated, `greatest` the last of these,
-// and values of `width` bytes, with the length of its form.
-pub fn choose_form(n: u32, u: u32, greatest: u32, width: u32) -> Coded
+/// The tag that is sent for a list of `n` positions, `u` of them updated, `greatest` the last of these,
+/// and values of `width` bytes, with the length of its form.
+pub(crate) fn choose_form(n: u32, u: u32, greatest: u32, width: u32) -> Coded
     requires short { n ≤ MAX_NODES }
     requires updated { u ≤ n }
     requires within { 0 < u → greatest < n }

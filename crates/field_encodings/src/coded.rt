@@ -1,3 +1,4 @@
+//! What a call of `encode` wrote.
 /// What was written: the tag of the form, and how many bytes it takes at the front of the buffer.
 #[derive(Clone, Copy, Debug, PartialEq, Eq)]
 pub struct Coded {

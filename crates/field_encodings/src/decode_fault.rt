@@ -1,3 +1,4 @@
+//! Why a payload is refused.
 use thiserror::Error;
 
 /// Why a payload is not a form of a packet.

@@ -1,3 +1,4 @@
+//! Reads a payload.
 ghost use Rattle.std.specs.Prelude.{◌≡◌, ◌<◌, ◌≤◌, ℕ, Bool, List, length, IfOk};
 ghost use Rattle.std.specs.List.Sorted.{IsStrictlyIncreasing};
 ghost use Rattle.field_encodings.specs.Checks.{checked};
@@ -10,7 +11,7 @@ use crate::readers::{read_all, read_bits, read_ids, read_positions};
 use graph_model::MAX_NODES;
 use reduce_laws::Word;
 
-// What follows the tag is read as the form of that tag.
+/// What follows the tag is read as the form of that tag.
 #[tactic(auto, unfolding(crate::specs::Checks::checked))]
 fn read_payload<'a, W: Word>(bytes: &'a [u8], ids: &'a [u32]) -> Result<Entries<'a, W>, DecodeFault>
     requires rising { IsStrictlyIncreasing ids.now }

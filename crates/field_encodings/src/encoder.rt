@@ -1,71 +1,63 @@
-ghost use Rattle.std.specs.Prelude.{◌≡◌, ◌<◌, ◌≤◌, ◌+◌, ◌*◌, ◌^◌, ◌++◌, ℕ, length, take, drop, slice_index, vec_len, IfOk};
+//! Writes a list's packet.
+ghost use Rattle.std.specs.Prelude.{◌≡◌, ◌<◌, ◌≤◌, ◌+◌, ◌*◌, ◌++◌, ℕ, length, take, drop, slice_index, vec_len, Ok, IfOk};
 ghost use Rattle.std.specs.List.{All, flat_map};
 ghost use Rattle.std.specs.List.Sorted.{IsStrictlyIncreasing};
+ghost use Rattle.list_laws.specs.Members.{members};
 ghost use Rattle.field_encodings.specs.Lists.{marks_at, values_at};
-ghost use Rattle.field_encodings.specs.Marks.{marked_from};
-ghost use Rattle.field_encodings.specs.Forms.{form, names, sent};
+ghost use Rattle.field_encodings.specs.Forms.{form, names, sent, IsForm};
+ghost use Rattle.field_encodings.specs.Packets.{packet_at, tag_of, entries_of_packet};
+ghost use Rattle.field_encodings.specs.Checks.{checked};
 ghost use Rattle.field_encodings.specs.Lengths.{form_length, greatest_of, IsSentTag};
 
 use crate::chosen_form::choose_form;
 use crate::coded::Coded;
 use crate::form_writers::{write_bit_form, write_id_form, write_position_form};
-use crate::updated::{Updated, count_updated};
+use crate::outgoing::Outgoing;
+use crate::updated::count_updated;
 use crate::writers::write_all;
 use graph_model::MAX_NODES;
 use reduce_laws::Word;
 use update_bits::UpdateBits;
 
-// Writes what follows the tag, over the whole of `rest`.
-fn write_rest<W: Word>(
-    tag: u8,
-    values: &[W],
-    locals: &[u32],
-    ids: &[u32],
-    bits: &UpdateBits,
-    updated: Updated,
-    rest: &mut [u8],
-)
+/// Writes what follows the tag, over the whole of `rest`.
+fn write_rest<W: Word>(list: &Outgoing<W>, tag: u8, rest: &mut [u8])
     requires is_tag { tag ≤ 3 }
-    requires short { length locals.now < 2 ^ 32 }
-    requires one_length { length locals.now ≡ length ids.now }
-    requires has_values { All (λ local. local < length values.now) locals.now }
-    requires has_bits { All (λ local. local < length bits.now) locals.now }
-    requires count { updated.count ≡ length (marked_from 0 (marks_at bits.now locals.now)) }
-    requires last { updated.greatest ≡ greatest_of (marked_from 0 (marks_at bits.now locals.now)) }
-    requires room { 1 + length rest.old ≡ form_length (length ids.now) updated.count updated.greatest W.WIDTH tag }
-    ensures { rest.new ≡ names tag ids.now (marks_at bits.now locals.now)
-        ++ flat_map W.bytes_of (sent tag (marks_at bits.now locals.now) (values_at values.now locals.now)) }
+    requires room { 1 + length rest.old ≡ form_length (length list.now.ids.now) list.now.count list.now.greatest W.WIDTH tag }
+    ensures { rest.new ≡ names tag list.now.ids.now (marks_at list.now.bits.now list.now.locals.now)
+        ++ flat_map W.bytes_of (sent tag (marks_at list.now.bits.now list.now.locals.now) (values_at list.now.values.now list.now.locals.now)) }
 {
     match tag {
-        0 => write_all(values, locals, rest),
-        1 => write_bit_form(values, locals, bits, rest),
-        2 => write_position_form(values, locals, bits, updated.count, updated.greatest, rest),
-        _ => write_id_form(values, locals, ids, bits, updated.count, rest),
+        0 => write_all(list, rest),
+        1 => write_bit_form(list, rest),
+        2 => write_position_form(list, rest),
+        _ => write_id_form(list, rest),
     }
 }
 
-// Writes the form of the tag over the whole of `text`.
-fn write_form<W: Word>(
-    tag: u8,
-    values: &[W],
-    locals: &[u32],
-    ids: &[u32],
-    bits: &UpdateBits,
-    updated: Updated,
-    text: &mut [u8],
-)
+/// Writes the form of the tag over the whole of `text`.
+fn write_form<W: Word>(list: &Outgoing<W>, tag: u8, text: &mut [u8])
     requires is_tag { tag ≤ 3 }
-    requires short { length locals.now < 2 ^ 32 }
-    requires one_length { length locals.now ≡ length ids.now }
-    requires has_values { All (λ local. local < length values.now) locals.now }
-    requires has_bits { All (λ local. local < length bits.now) locals.now }
-    requires count { updated.count ≡ length (marked_from 0 (marks_at bits.now locals.now)) }
-    requires last { updated.greatest ≡ greatest_of (marked_from 0 (marks_at bits.now locals.now)) }
-    requires room { length text.old ≡ form_length (length ids.now) updated.count updated.greatest W.WIDTH tag }
-    ensures { text.new ≡ form W.bytes_of tag ids.now (marks_at bits.now locals.now) (values_at values.now locals.now) }
+    requires room { length text.old ≡ form_length (length list.now.ids.now) list.now.count list.now.greatest W.WIDTH tag }
+    ensures { text.new ≡ form W.bytes_of tag list.now.ids.now (marks_at list.now.bits.now list.now.locals.now) (values_at list.now.values.now list.now.locals.now) }
 {
     text[0] = tag;
-    write_rest(tag, values, locals, ids, bits, updated, &mut text[1..]);
+    write_rest(list, tag, &mut text[1..]);
+}
+
+/// Writes the shortest form over the front of `out`.
+fn write_shortest<W: Word>(list: &Outgoing<W>, out: &mut [u8]) -> Coded
+    requires short { length list.now.ids.now ≤ MAX_NODES }
+    requires room { 1 + length list.now.ids.now * W.WIDTH ≤ length out.old }
+    ensures sent { IsSentTag (length list.now.ids.now) list.now.count list.now.greatest W.WIDTH result.tag }
+    ensures length { result.len ≡ form_length (length list.now.ids.now) list.now.count list.now.greatest W.WIDTH result.tag }
+    ensures form { take result.len out.new
+        ≡ form W.bytes_of result.tag list.now.ids.now (marks_at list.now.bits.now list.now.locals.now) (values_at list.now.values.now list.now.locals.now) }
+    ensures rest { drop result.len out.new ≡ drop result.len out.old }
+{
+    let coded = choose_form(list.ids.len() as u32, list.count, list.greatest, W::WIDTH);
+    let text = &mut out[..coded.len as usize];
+    write_form(list, coded.tag, text);
+    coded
 }
 
 /// Writes the shortest form of a list's updated values over the front of `out`, the one of the smaller
@@ -73,6 +65,9 @@ fn write_form<W: Word>(
 /// `ids`, its global ids; both rise, and the values and the set `bits` are kept by local number. The
 /// empty list gives the one byte `03`. `out` has room for the form of all values; what lies behind the
 /// form stays.
+///
+/// Where few positions are updated they are found from the set, so that a packet without updates costs
+/// no pass over the list.
 pub fn encode<W: Word>(
     values: &[W],
     locals: &[u32],
@@ -87,24 +82,33 @@ pub fn encode<W: Word>(
     requires has_values { All (λ local. local < length values.now) locals.now }
     requires has_bits { All (λ local. local < length bits.now) locals.now }
     requires room { 1 + length ids.now * W.WIDTH ≤ length out.old }
-    ensures shortest { let updated = marked_from 0 (marks_at bits.now locals.now) in
+    ensures shortest { let updated = members (marks_at bits.now locals.now) in
         IsSentTag (length ids.now) (length updated) (greatest_of updated) W.WIDTH result.tag }
-    ensures length { let updated = marked_from 0 (marks_at bits.now locals.now) in
+    ensures tag { result.tag ≡ tag_of W.WIDTH (packet_at values.now locals.now ids.now bits.now) }
+    ensures length { let updated = members (marks_at bits.now locals.now) in
         result.len ≡ form_length (length ids.now) (length updated) (greatest_of updated) W.WIDTH result.tag }
+    ensures fits { result.len ≤ 1 + length ids.now * W.WIDTH }
     ensures form { take result.len out.new
         ≡ form W.bytes_of result.tag ids.now (marks_at bits.now locals.now) (values_at values.now locals.now) }
     ensures rest { drop result.len out.new ≡ drop result.len out.old }
+    // Where the values are values, what is written is a form for these ids.
+    ensures well_formed { All W.IsValue (values_at values.now locals.now)
+        → IsForm W.IsValue W.bytes_of ids.now (take result.len out.new) result.tag (marks_at bits.now locals.now) (values_at values.now locals.now) }
+    // So a receiver gets exactly the entries that were sent: the updated ones, or all of them with tag 0.
+    ensures received { All W.IsValue (values_at values.now locals.now)
+        → checked W.WIDTH W.value_of ids.now (take result.len out.new)
+        ≡ Ok (entries_of_packet W.WIDTH (packet_at values.now locals.now ids.now bits.now)) }
 {
     let updated = count_updated(locals, bits);
-    let coded = choose_form(
-        locals.len() as u32,
-        updated.count,
-        updated.greatest,
-        W::WIDTH,
-    );
-    let text = &mut out[..coded.len as usize];
-    write_form(coded.tag, values, locals, ids, bits, updated, text);
-    coded
+    let list = Outgoing {
+        values,
+        locals,
+        ids,
+        bits,
+        count: updated.count,
+        greatest: updated.greatest,
+    };
+    write_shortest(&list, out)
 }
 
 #[cfg(test)]

@@ -1,3 +1,4 @@
+//! The entries of a payload, read from it one after another.
 ghost use Rattle.std.specs.Prelude.{◌≡◌, ◌≤◌, ◌*◌, length};
 ghost use Rattle.std.specs.Iterator.{YieldsFirst, item_count};
 
@@ -30,7 +31,7 @@ impl<'a, W: Word> Entries<'a, W> {
     ghost use Rattle.field_encodings.specs.Checks.{paired};
     ghost use Rattle.field_encodings.specs.Places.{coming, AreReady};
 
-    // The entries at these places, with these bytes of values.
+    /// The entries at these places, with these bytes of values.
     pub(crate) fn new(places: Places<'a>, values: &'a [u8]) -> Self
         requires ready { AreReady places }
         requires enough { length (coming places) * W.WIDTH ≤ length values.now }

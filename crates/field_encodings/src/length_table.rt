@@ -1,3 +1,4 @@
+//! How long each form is.
 ghost use Rattle.std.specs.Prelude.{◌≡◌, ◌<◌, ◌≤◌};
 ghost use Rattle.reduce_laws.specs.WordLaws.{IsWordWidth};
 ghost use Rattle.field_encodings.specs.Lengths.{width_for, lengths_of};
@@ -6,7 +7,7 @@ use graph_model::MAX_NODES;
 
 /// The least of 1, 2 and 4 bytes that hold a position.
 #[tactic(auto, unfolding(crate::specs::Lengths::width_for))]
-pub fn position_width(position: u32) -> u8
+pub(crate) fn position_width(position: u32) -> u8
     ensures { result ≡ width_for position }
 {
     if position < 256 {

@@ -1,10 +1,11 @@
+//! Numbers in a text.
 ghost use Rattle.std.specs.Prelude.{◌≡◌, ◌<◌, ◌≤◌, ◌+◌, ◌*◌, length, take, drop};
-ghost use Rattle.field_encodings.specs.Numbers.{le_number};
+ghost use Rattle.list_laws.specs.LittleEndian.{le_number};
 ghost use Rattle.field_encodings.specs.Places.{IsPositionWidth};
 
-// The number at turn `i` of a text of numbers that take `width` bytes each.
-#[tactic(auto, unfolding(crate::specs::Numbers::le_number))]
-pub fn number_at(width: u8, text: &[u8], i: usize) -> u32
+/// The number at turn `i` of a text of numbers that take `width` bytes each.
+#[tactic(auto, unfolding(list_laws::specs::LittleEndian::le_number))]
+pub(crate) fn number_at(width: u8, text: &[u8], i: usize) -> u32
     requires width { IsPositionWidth width }
     requires within { (i + 1) * width ≤ length text.now }
     ensures { result ≡ le_number (take width (drop (i * width) text.now)) }

@@ -1,6 +1,7 @@
+//! Checks that positions and ids rise and are those of a list.
 ghost use Rattle.std.specs.Prelude.{◌≡◌, ◌<◌, ◌≤◌, ◌*◌, ◌^◌, length, MatchResult};
 ghost use Rattle.std.specs.List.Sorted.{IsStrictlyIncreasing};
-ghost use Rattle.field_encodings.specs.Numbers.{numbers};
+ghost use Rattle.list_laws.specs.LittleEndian.{numbers};
 ghost use Rattle.field_encodings.specs.Lengths.{greatest_of};
 ghost use Rattle.field_encodings.specs.Checks.{position_fault, id_fault};
 ghost use Rattle.field_encodings.specs.Places.{IsPositionWidth};
@@ -9,14 +10,19 @@ use crate::decode_fault::DecodeFault;
 use crate::id_places::place_in;
 use crate::number_text::number_at;
 
-// The greatest of the first `left` positions of a text, 0 if there is none, or the first that is not
-// below `count` or not above the one before.
-pub fn check_positions(left: usize, width: u8, text: &[u8], count: u32) -> Result<u32, DecodeFault>
+/// The greatest of the first `left` positions of a text, 0 if there is none, or the first that is not
+/// below `count` or not above the one before.
+pub(crate) fn check_positions(
+    left: usize,
+    width: u8,
+    text: &[u8],
+    count: u32,
+) -> Result<u32, DecodeFault>
     requires width { IsPositionWidth width }
     requires within { left * width ≤ length text.now }
     ensures { MatchResult result
-        (λ greatest. (position_fault count 0 0 (numbers width left text.now) ≡ None) × (greatest ≡ greatest_of (numbers width left text.now)))
-        (λ fault. position_fault count 0 0 (numbers width left text.now) ≡ Some fault) }
+        (λ greatest. (position_fault count (numbers width left text.now) ≡ None) × (greatest ≡ greatest_of (numbers width left text.now)))
+        (λ fault. position_fault count (numbers width left text.now) ≡ Some fault) }
 {
     let mut low: u32 = 0;
     for i in 0..left {
@@ -32,15 +38,15 @@ pub fn check_positions(left: usize, width: u8, text: &[u8], count: u32) -> Resul
     Ok(low.saturating_sub(1))
 }
 
-// Whether each of the first `left` ids of a text is above the one before and is one of `ids`, or the
-// first that is not.
-pub fn check_ids(left: usize, text: &[u8], ids: &[u32]) -> Result<(), DecodeFault>
+/// Whether each of the first `left` ids of a text is above the one before and is one of `ids`, or the
+/// first that is not.
+pub(crate) fn check_ids(left: usize, text: &[u8], ids: &[u32]) -> Result<(), DecodeFault>
     requires within { left * 4 ≤ length text.now }
     requires rising { IsStrictlyIncreasing ids.now }
     requires short { length ids.now < 2 ^ 32 }
     ensures { MatchResult result
-        (λ _. id_fault ids.now 0 0 (numbers 4 left text.now) ≡ None)
-        (λ fault. id_fault ids.now 0 0 (numbers 4 left text.now) ≡ Some fault) }
+        (λ _. id_fault ids.now (numbers 4 left text.now) ≡ None)
+        (λ fault. id_fault ids.now (numbers 4 left text.now) ≡ Some fault) }
 {
     let mut low: u64 = 0;
     for i in 0..left {

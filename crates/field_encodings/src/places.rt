@@ -1,8 +1,9 @@
+//! Where the positions of entries are read from.
 ghost use Rattle.std.specs.Prelude.{◌≡◌, ◌<◌, ◌≤◌, ◌+◌, ◌*◌, ◌^◌, [], ◌∷◌, length, map, MatchOption};
 ghost use Rattle.std.specs.List.Sorted.{IsStrictlyIncreasing};
-ghost use Rattle.field_encodings.specs.Checks.{place_of};
-ghost use Rattle.field_encodings.specs.Numbers.{numbers};
-ghost use Rattle.field_encodings.specs.Places.{coming, AreReady, AreKnown, IsPositionWidth};
+ghost use Rattle.list_laws.specs.Among.{place_of, AllAmong};
+ghost use Rattle.list_laws.specs.LittleEndian.{numbers};
+ghost use Rattle.field_encodings.specs.Places.{coming, AreReady, IsPositionWidth};
 
 use crate::bit_places::next_bit;
 use crate::id_places::place_in;
@@ -10,7 +11,7 @@ use crate::number_text::number_at;
 
 /// Where the positions of the entries to come are read from.
 #[derive(Clone, Copy)]
-pub enum Places<'a> {
+pub(crate) enum Places<'a> {
     /// The next `left` positions from `next` on.
     All {
         next: u32,
@@ -35,7 +36,7 @@ pub enum Places<'a> {
     },
 }
 
-// The first of the numbers to come, and the places of the others.
+/// The first of the numbers to come, and the places of the others.
 fn next_number(left: usize, width: u8, text: &[u8]) -> Option<(u32, Places<'_>)>
     requires width { IsPositionWidth width }
     requires within { left * width ≤ length text.now }
@@ -51,12 +52,12 @@ fn next_number(left: usize, width: u8, text: &[u8]) -> Option<(u32, Places<'_>)>
     Some((position, Places::Numbers { left, width, text }))
 }
 
-// The place of the first of the ids to come, and the places of the others.
+/// The place of the first of the ids to come, and the places of the others.
 fn next_id<'a>(left: usize, text: &'a [u8], ids: &'a [u32]) -> Option<(u32, Places<'a>)>
     requires within { left * 4 ≤ length text.now }
     requires short { length ids.now < 2 ^ 32 }
     requires rising { IsStrictlyIncreasing ids.now }
-    requires known { AreKnown ids.now (numbers 4 left text.now) }
+    requires known { AllAmong ids.now (numbers 4 left text.now) }
     ensures first { MatchOption result (numbers 4 left text.now ≡ [])
         (λ found. map (place_of ids.now) (numbers 4 left text.now) ≡ found.0 ∷ coming found.1) }
     ensures ready { MatchOption result (Unit {0}) (λ found. AreReady found.1) }
@@ -70,8 +71,8 @@ fn next_id<'a>(left: usize, text: &'a [u8], ids: &'a [u32]) -> Option<(u32, Plac
     Some((position, Places::Ids { left, text, ids }))
 }
 
-// The first position to come, and the places of the others.
-pub fn next_position(places: Places<'_>) -> Option<(u32, Places<'_>)>
+/// The first position to come, and the places of the others.
+pub(crate) fn next_position(places: Places<'_>) -> Option<(u32, Places<'_>)>
     requires { AreReady places }
     ensures first { MatchOption result (coming places.entry ≡ []) (λ found. coming places.entry ≡ found.0 ∷ coming found.1) }
     ensures ready { MatchOption result (Unit {0}) (λ found. AreReady found.1) }

@@ -1,3 +1,4 @@
+//! Reads what follows a tag, one function for each form.
 ghost use Rattle.std.specs.Prelude.{◌≡◌, ◌<◌, ◌≤◌, ◌+◌, ◌*◌, ◌^◌, length};
 ghost use Rattle.std.specs.List.Sorted.{IsStrictlyIncreasing};
 ghost use Rattle.field_encodings.specs.Checks.{all_checked, bits_checked, positions_checked, ids_checked};
@@ -11,7 +12,7 @@ use crate::places::Places;
 use graph_model::MAX_NODES;
 use reduce_laws::Word;
 
-// The fault of a text that follows so many bytes and has another length than the wanted one.
+/// The fault of a text that follows so many bytes and has another length than the wanted one.
 fn wrong_length(before: u8, wanted: usize, text: &[u8]) -> DecodeFault
     requires { before + wanted < 2 ^ 64 }
     ensures { result ≡ DecodeFault.Length (before + wanted) (before + length text.now) }
@@ -22,9 +23,12 @@ fn wrong_length(before: u8, wanted: usize, text: &[u8]) -> DecodeFault
     }
 }
 
-// What follows tag 0, for a list of `count` positions.
+/// What follows tag 0, for a list of `count` positions.
 #[tactic(auto, unfolding(crate::specs::Checks::all_checked))]
-pub fn read_all<'a, W: Word>(text: &'a [u8], count: u32) -> Result<Entries<'a, W>, DecodeFault>
+pub(crate) fn read_all<'a, W: Word>(
+    text: &'a [u8],
+    count: u32,
+) -> Result<Entries<'a, W>, DecodeFault>
     requires { count ≤ MAX_NODES }
     ensures { result ≡ all_checked W.WIDTH W.value_of count text.now }
 {
@@ -39,9 +43,12 @@ pub fn read_all<'a, W: Word>(text: &'a [u8], count: u32) -> Result<Entries<'a, W
     Ok(Entries::new(places, text))
 }
 
-// What follows tag 1, for a list of `count` positions.
+/// What follows tag 1, for a list of `count` positions.
 #[tactic(auto, unfolding(crate::specs::Checks::bits_checked))]
-pub fn read_bits<'a, W: Word>(text: &'a [u8], count: u32) -> Result<Entries<'a, W>, DecodeFault>
+pub(crate) fn read_bits<'a, W: Word>(
+    text: &'a [u8],
+    count: u32,
+) -> Result<Entries<'a, W>, DecodeFault>
     requires { count ≤ MAX_NODES }
     ensures { result ≡ bits_checked W.WIDTH W.value_of count text.now }
 {
@@ -60,9 +67,9 @@ pub fn read_bits<'a, W: Word>(text: &'a [u8], count: u32) -> Result<Entries<'a, 
     Ok(Entries::new(Places::Bits { bits, next: 0 }, values))
 }
 
-// What follows tag 2, for a list of `count` positions.
+/// What follows tag 2, for a list of `count` positions.
 #[tactic(auto, unfolding(crate::specs::Checks::positions_checked))]
-pub fn read_positions<'a, W: Word>(
+pub(crate) fn read_positions<'a, W: Word>(
     text: &'a [u8],
     count: u32,
 ) -> Result<Entries<'a, W>, DecodeFault>
@@ -89,9 +96,12 @@ pub fn read_positions<'a, W: Word>(
     Ok(Entries::new(Places::Numbers { left, width, text }, values))
 }
 
-// What follows tag 3, for a list with these ids.
+/// What follows tag 3, for a list with these ids.
 #[tactic(auto, unfolding(crate::specs::Checks::ids_checked))]
-pub fn read_ids<'a, W: Word>(text: &'a [u8], ids: &'a [u32]) -> Result<Entries<'a, W>, DecodeFault>
+pub(crate) fn read_ids<'a, W: Word>(
+    text: &'a [u8],
+    ids: &'a [u32],
+) -> Result<Entries<'a, W>, DecodeFault>
     requires rising { IsStrictlyIncreasing ids.now }
     requires short { length ids.now ≤ MAX_NODES }
     ensures { result ≡ ids_checked W.WIDTH W.value_of ids.now text.now }

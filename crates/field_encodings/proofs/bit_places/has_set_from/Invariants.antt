@@ -1,6 +1,6 @@
 use Rattle.std.proofs.Common.{◌≡◌, drop}
 use Rattle.std.specs.List.{list_any}
-use Rattle.field_encodings.specs.Marks.{unpacked}
+use Rattle.list_laws.specs.Bits.{unpacked}
 use Rattle.field_encodings.proofs.bit_places.has_set_from.Given as goal
 
 -- none of the bits so far is set

@@ -1,4 +1,4 @@
-use Rattle.field_encodings.proofs.Lookups.{found_among, not_among}
+use Rattle.list_laws.proofs.Among.{found_among, not_among}
 use Rattle.field_encodings.proofs.id_places.place_in.Goals as goal
 
 pub returns-in-Ok : goal.returns-in-Ok

@@ -1,5 +1,5 @@
 use Rattle.std.proofs.Common.{◌<◌, ◌∙◌, ◌∷◌, length, take, drop, ◌-◌, sym, ap, arith}
-use Rattle.field_encodings.specs.Numbers.{numbers}
+use Rattle.list_laws.specs.LittleEndian.{numbers}
 use Rattle.field_encodings.proofs.Upcoming.{numbers-cut}
 use Rattle.field_encodings.proofs.places.next_number.Goals as goal
 

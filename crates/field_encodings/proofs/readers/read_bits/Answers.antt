@@ -1,6 +1,6 @@
 use Rattle.std.proofs.Common.{◌≡◌, ◌≤◌, ◌+◌, ◌*◌, length, take, drop, sym, ap, ◌∙◌, arith, refl, Ok, Err}
 use Rattle.field_encodings.specs.declared.decode_fault.DecodeFault.TheVariants.{Length}
-use Rattle.field_encodings.specs.Marks.{vector_length}
+use Rattle.field_encodings.specs.Lengths.{vector_length}
 use Rattle.field_encodings.specs.Places.{set_from}
 use Rattle.field_encodings.proofs.ReaderLemmas.{bits_wrong, bits_right}
 use Rattle.field_encodings.proofs.readers.read_bits.Goals as goal

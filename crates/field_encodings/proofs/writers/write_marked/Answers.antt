@@ -1,36 +1,49 @@
-use Rattle.std.proofs.Common.{◌≡◌, ◌<◌, ◌∙◌, List, ℕ, Bool, true, false, length, get_or, arith, sym, ap, replicate}
-use Rattle.field_encodings.specs.Marks.{vector_length}
-use Rattle.std.proofs.lemmas.Grind.{common_steps}
-use Rattle.field_encodings.proofs.BitVector.{vector-yes, vector-no, packed-none}
-use Rattle.field_encodings.proofs.Writing.{marked-yes, marked-no, AreSentTo-yes, AreSentTo-no}
+use Rattle.std.proofs.Common.{◌≡◌, ◌*◌, ◌∙◌, ℕ, List, Bool, [], length, take, ◌++◌, replicate, arith, sym, ap}
+use Rattle.std.proofs.lemmas.List.{length-map}
+use Rattle.list_laws.specs.Bits.{packed}
+use Rattle.list_laws.specs.Members.{has_member, IsLeastMemberSince}
+use Rattle.list_laws.proofs.Members.{members_since, IsMember-lt-length}
+use Rattle.list_laws.proofs.Since.{packed_front-next, packed_front-end}
+use Rattle.list_laws.proofs.PackedBits.{packed-none}
+use Rattle.field_encodings.specs.Lists.{marks_at}
+use Rattle.field_encodings.specs.Lengths.{vector_length}
+use Rattle.field_encodings.proofs.Writing.{is_left, is_next, none_left, AreSentTo-start, AreSentTo-next, AreSentTo-end}
 use Rattle.field_encodings.proofs.writers.write_marked.Goals as goal
-use Rattle.field_encodings.proofs.writers.write_marked.Goals.{then-test, else-test}
 
-pub loop-position-preserved : goal.loop-position-preserved
-loop-position-preserved g c =
-    let i : ℕ = c.loop-position.position in
-    let k : ℕ = c.loop-position.written in
-    let bits : List Bool = c.args.bits.now in
-    let locals : List ℕ = c.args.locals.now in
-    let here : i < length locals = c.loop-position-test.true in
-    elim c.if-test.branch [
-      | then-test w ↦
-          let m : get_or bits (get_or locals i 0) false ≡ true = sym c.test.ensures ∙ w.if-test.true in
-          rw (w.written-is, w.names-is, w.text-is) (
-            omega (arith, c.loop-position.invariant.0, ap length (marked-yes bits locals i here m)),
-            vector-yes bits locals i c.loop-position.names here m c.loop-position.invariant.1,
-            AreSentTo-yes g.W.Word.bytes_of g.W.Word.WIDTH w.WIDTH.result bits c.args.values.now locals i k c.loop-position.text w.put_word.new.out w.index-values-local.result
-                here c.requires.has_values m w.index-values-local.is w.WIDTH.ensures w.put_word.ensures c.loop-position.invariant.2,
-          )
-      | else-test w ↦
-          let m : get_or bits (get_or locals i 0) false ≡ false = sym c.test.ensures ∙ w.if-test.false in
-          rw (w.written-is, w.names-is, w.text-is) (
-            omega (arith, c.loop-position.invariant.0, ap length (marked-no bits locals i here m)),
-            vector-no bits locals i c.loop-position.names here m c.loop-position.invariant.1,
-            AreSentTo-no g.W.Word.bytes_of g.W.Word.WIDTH bits c.args.values.now locals i k c.loop-position.text here c.requires.has_values m c.loop-position.invariant.2,
-          )
-    ]
+pub unwrap-position-requires : goal.unwrap-position-requires
+unwrap-position-requires g c =
+    is_left (marks_at c.args.list.now.bits.now c.args.list.now.locals.now) c.loop-written.place c.loop-written.written c.args.list.now.count c.next_updated.result
+    c.loop-written.invariant.values.left c.loop-written-test.true c.next_updated.ensures
 
-pub loop-position-init : goal.loop-position-init
-loop-position-init g c =
-    (omega arith, c.fill.ensures.after (λ y e. e) ∙ ap (λ n. replicate n 0) c.requires.names_room ∙ sym (packed-none (vector_length (length c.args.locals.now))), grind (arith, common_steps))
+pub loop-written-preserved : goal.loop-written-preserved
+loop-written-preserved g c =
+    let marks : List Bool = marks_at c.args.list.now.bits.now c.args.list.now.locals.now in
+    let m : ℕ = c.unwrap-position.result in
+    let next : IsLeastMemberSince marks c.loop-written.place m = is_next marks c.loop-written.place m c.next_updated.result c.unwrap-position.ensures c.next_updated.ensures in
+    record {
+      names = packed_front-next (vector_length (length c.args.list.now.locals.now)) marks c.loop-written.place m c.loop-written.names
+          (omega (arith, IsMember-lt-length marks m next.member, length-map c.args.list.now.locals.now (has_member c.args.list.now.bits.now))) next c.loop-written.invariant.names;
+      values = AreSentTo-next g.W.Word.bytes_of g.W.Word.WIDTH c.WIDTH.result c.args.list.now.bits.now c.args.list.now.values.now c.args.list.now.locals.now c.args.list.now.count c.loop-written.place c.loop-written.written m
+          c.loop-written.text c.put_word.new.out c.index-list-local.result c.args.list.now.source.has_values next c.index-list-local.is c.WIDTH.ensures
+          (c.put_word.ensures ∙ ap (λ x. take (c.loop-written.written * c.WIDTH.result) c.loop-written.text ++ g.W.Word.bytes_of x) (sym c.index-list-local.is)) c.loop-written.invariant.values;
+    }
+
+pub returns-clause-names : goal.returns-clause-names
+returns-clause-names g c =
+    let marks : List Bool = marks_at c.args.list.now.bits.now c.args.list.now.locals.now in
+    let none : members_since marks c.loop-written.place ≡ []
+    = none_left marks c.loop-written.place c.loop-written.written c.args.list.now.count c.loop-written.invariant.values.left c.loop-written-test.false in
+    c.loop-written.invariant.names
+    ∙ packed_front-end 8 (vector_length (length c.args.list.now.locals.now)) marks c.loop-written.place none
+    ∙ ap (λ n. packed 8 (vector_length n) marks) (sym (length-map c.args.list.now.locals.now (has_member c.args.list.now.bits.now)))
+
+pub returns-clause-text : goal.returns-clause-text
+returns-clause-text g c =
+    AreSentTo-end g.W.Word.bytes_of g.W.Word.WIDTH c.args.list.now.bits.now c.args.list.now.values.now c.args.list.now.locals.now c.args.list.now.count c.loop-written.place c.loop-written.written
+    c.loop-written.text c.args.list.now.source.has_values c.loop-written-test.false (omega (arith, c.loop-written.auto.text, c.requires.text_room)) c.loop-written.invariant.values
+
+pub loop-written-init : goal.loop-written-init
+loop-written-init g c = record {
+  names = c.fill.ensures.after (λ y e. e) ∙ ap (λ n. replicate n 0) c.requires.names_room ∙ sym (packed-none (vector_length (length c.args.list.now.locals.now)));
+  values = AreSentTo-start g.W.Word.bytes_of g.W.Word.WIDTH c.args.list.now.bits.now c.args.list.now.values.now c.args.list.now.locals.now c.args.list.now.count c.args.text.now c.args.list.now.counted;
+}

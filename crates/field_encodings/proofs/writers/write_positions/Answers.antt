@@ -1,37 +1,39 @@
-use Rattle.std.proofs.Common.{◌≡◌, ◌+◌, ◌*◌, ◌<◌, ◌∙◌, List, ℕ, Bool, true, false, drop, length, get_or, arith, sym, ap, refl}
+use Rattle.std.proofs.Common.{◌≡◌, ◌+◌, ◌*◌, ◌∙◌, ℕ, List, Bool, [], take, ◌++◌, arith, sym, ap, refl}
 use Rattle.std.specs.List.{flat_map}
+use Rattle.list_laws.specs.LittleEndian.{le_bytes}
+use Rattle.list_laws.specs.Members.{members, IsLeastMemberSince}
+use Rattle.list_laws.proofs.Members.{members_since, members_since-next}
 use Rattle.field_encodings.specs.Lists.{marks_at}
-use Rattle.field_encodings.specs.Marks.{marked_from}
-use Rattle.field_encodings.specs.Numbers.{le_bytes}
-use Rattle.field_encodings.proofs.Writing.{marked-yes, marked-no, IsWrittenTo-piece, IsWrittenTo-same, AreSentTo-yes, AreSentTo-no}
+use Rattle.field_encodings.proofs.Writing.{IsWrittenTo-piece, written_whole, is_left, is_next, none_left, AreSentTo-next, AreSentTo-end}
 use Rattle.field_encodings.proofs.writers.write_positions.Goals as goal
-use Rattle.field_encodings.proofs.writers.write_positions.Goals.{then-test, else-test}
 
-pub loop-position-preserved : goal.loop-position-preserved
-loop-position-preserved g c =
-    let i : ℕ = c.loop-position.position in
-    let k : ℕ = c.loop-position.written in
-    let bits : List Bool = c.args.bits.now in
-    let locals : List ℕ = c.args.locals.now in
-    let here : i < length locals = c.loop-position-test.true in
-    elim c.if-test.branch [
-      | then-test w ↦
-          let m : get_or bits (get_or locals i 0) false ≡ true = sym c.test.ensures ∙ w.if-test.true in
-          rw (w.written-is, w.names-is, w.text-is) (
-            omega (arith, c.loop-position.invariant.0, ap length (marked-yes bits locals i here m)),
-            IsWrittenTo-piece (le_bytes c.args.width) c.args.width c.args.width k c.loop-position.names w.put_number.new.out
-                (flat_map (le_bytes c.args.width) (marked_from 0 (marks_at bits locals))) i (marked_from i (marks_at bits (drop i locals))) (marked_from (i + 1) (marks_at bits (drop (i + 1) locals)))
-                refl (marked-yes bits locals i here m) w.put_number.ensures c.loop-position.invariant.1,
-            AreSentTo-yes g.W.Word.bytes_of g.W.Word.WIDTH w.WIDTH.result bits c.args.values.now locals i k c.loop-position.text w.put_word.new.out w.index-values-local.result
-                here c.requires.has_values m w.index-values-local.is w.WIDTH.ensures w.put_word.ensures c.loop-position.invariant.2,
-          )
-      | else-test w ↦
-          let m : get_or bits (get_or locals i 0) false ≡ false = sym c.test.ensures ∙ w.if-test.false in
-          rw (w.written-is, w.names-is, w.text-is) (
-            omega (arith, c.loop-position.invariant.0, ap length (marked-no bits locals i here m)),
-            IsWrittenTo-same (le_bytes c.args.width) (k * c.args.width) c.loop-position.names
-                (flat_map (le_bytes c.args.width) (marked_from 0 (marks_at bits locals))) (marked_from i (marks_at bits (drop i locals))) (marked_from (i + 1) (marks_at bits (drop (i + 1) locals)))
-                (marked-no bits locals i here m) c.loop-position.invariant.1,
-            AreSentTo-no g.W.Word.bytes_of g.W.Word.WIDTH bits c.args.values.now locals i k c.loop-position.text here c.requires.has_values m c.loop-position.invariant.2,
-          )
-    ]
+pub unwrap-position-requires : goal.unwrap-position-requires
+unwrap-position-requires g c =
+    is_left (marks_at c.args.list.now.bits.now c.args.list.now.locals.now) c.loop-written.place c.loop-written.written c.args.list.now.count c.next_updated.result
+    c.loop-written.invariant.values.left c.loop-written-test.true c.next_updated.ensures
+
+pub loop-written-preserved : goal.loop-written-preserved
+loop-written-preserved g c =
+    let marks : List Bool = marks_at c.args.list.now.bits.now c.args.list.now.locals.now in
+    let m : ℕ = c.unwrap-position.result in
+    let next : IsLeastMemberSince marks c.loop-written.place m = is_next marks c.loop-written.place m c.next_updated.result c.unwrap-position.ensures c.next_updated.ensures in
+    record {
+      names = IsWrittenTo-piece (le_bytes g.row.SIZE) g.row.SIZE g.row.SIZE c.loop-written.written c.loop-written.names c.put_number.new.out (flat_map (le_bytes g.row.SIZE) (members marks)) m
+          (members_since marks c.loop-written.place) (members_since marks (m + 1)) refl (members_since-next marks c.loop-written.place m next) c.put_number.ensures c.loop-written.invariant.names;
+      values = AreSentTo-next g.W.Word.bytes_of g.W.Word.WIDTH c.WIDTH.result c.args.list.now.bits.now c.args.list.now.values.now c.args.list.now.locals.now c.args.list.now.count c.loop-written.place c.loop-written.written m
+          c.loop-written.text c.put_word.new.out c.index-list-local.result c.args.list.now.source.has_values next c.index-list-local.is c.WIDTH.ensures
+          (c.put_word.ensures ∙ ap (λ x. take (c.loop-written.written * c.WIDTH.result) c.loop-written.text ++ g.W.Word.bytes_of x) (sym c.index-list-local.is)) c.loop-written.invariant.values;
+    }
+
+pub returns-clause-names : goal.returns-clause-names
+returns-clause-names g c =
+    let marks : List Bool = marks_at c.args.list.now.bits.now c.args.list.now.locals.now in
+    let none : members_since marks c.loop-written.place ≡ []
+    = none_left marks c.loop-written.place c.loop-written.written c.args.list.now.count c.loop-written.invariant.values.left c.loop-written-test.false in
+    written_whole (le_bytes g.row.SIZE) g.row.SIZE c.loop-written.written c.args.list.now.count c.loop-written.names (flat_map (le_bytes g.row.SIZE) (members marks)) (members_since marks c.loop-written.place)
+    none (omega (arith, c.loop-written.invariant.values.left, c.loop-written-test.false)) (omega (arith, c.loop-written.auto.names, c.requires.names_room)) c.loop-written.invariant.names
+
+pub returns-clause-text : goal.returns-clause-text
+returns-clause-text g c =
+    AreSentTo-end g.W.Word.bytes_of g.W.Word.WIDTH c.args.list.now.bits.now c.args.list.now.values.now c.args.list.now.locals.now c.args.list.now.count c.loop-written.place c.loop-written.written
+    c.loop-written.text c.args.list.now.source.has_values c.loop-written-test.false (omega (arith, c.loop-written.auto.text, c.requires.text_room)) c.loop-written.invariant.values
