@@ -1,0 +1,11 @@
+pub mod Counting
+pub mod Sameness
+pub mod InTime
+pub mod Happening
+pub mod Keeping
+pub mod Ending
+pub mod Tallying
+pub mod Numbering
+pub mod Tables
+pub mod Possible
+pub mod Posting

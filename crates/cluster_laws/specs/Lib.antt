@@ -1,0 +1,10 @@
+pub mod Channels
+pub mod Events
+pub mod Cluster
+pub mod Steps
+pub mod Tally
+pub mod Laws
+pub mod Numbers
+pub mod NumberLaws
+pub mod Possible
+pub mod Posting

@@ -1,0 +1,4 @@
+pub mod HostView
+pub mod Standing
+pub mod Effects
+pub mod Laws

@@ -1,0 +1,9 @@
+pub mod Turns
+pub mod Listed
+pub mod Shares
+pub mod Absorbing
+pub mod Given
+pub mod Carried
+pub mod Kept
+pub mod SameBytes
+pub mod PacketForms
