@@ -1,0 +1,4 @@
+pub mod Stream
+pub mod Made
+pub mod Facts
+pub mod Values
