@@ -1,15 +1,12 @@
 //! The program: words from the command line, a graph on standard input, answers on standard output.
 #![tactic(auto)]
 
-use gluon_top::gluon_main;
+use gluon_top::{NO_MEMORY, gluon_main};
 use io_edge::{FirstPicks, StdSink, StdSource};
 use std::alloc::AllocError;
 use std::process::ExitCode;
 use std::rt::Env;
 use std::{env, io};
-
-/// The status where the words cannot be gathered for want of memory.
-const NO_MEMORY: u8 = 4;
 
 fn main(rt: HostRuntime) -> ExitCode {
     let words = match gathered_words(&rt) {

@@ -2,8 +2,8 @@
 use Rattle.std.proofs.Common.{◌≡◌, ◌∙◌, ℕ, ◌+◌, ◌<◌, List, [], ◌∷◌, ◌++◌, length, take, drop, get_or, Option, None, ap, sym, arith, append_assoc}
 use Rattle.std.proofs.lemmas.List.{take_more, take-append-drop, length-take-le, append-nil}
 use Rattle.answer_writer.specs.Lines.{answer_line}
-use Rattle.io_edge.specs.Bytes.{Gains, GainsPrefix}
-use Rattle.io_edge.proofs.Moves.{GainsPrefix-++, GainsPrefix-more}
+use Rattle.io_edge.specs.Writing.{SinkState, WroteAll, WroteFront}
+use Rattle.io_edge.proofs.Writings.{WroteFront-++, WroteFront-more}
 use Rattle.gluon_top.specs.Meaning.{answer_lines}
 
 -- the lines of two parts
@@ -29,10 +29,9 @@ pub answer_lines-split : (xs : List (Option ℕ)) (i : ℕ) → answer_lines 0 x
 answer_lines-split xs i = ap (answer_lines 0) (sym (take-append-drop i xs)) ∙ answer_lines-append 0 (take i xs) (drop i xs)
 
 -- the lines so far, and then a front of the next one
-pub lines_front : (a b c : Option (List ℕ)) (xs : List (Option ℕ)) (i : ℕ) (x : Option ℕ) → i < length xs → x ≡ get_or xs i None →
-    Gains a b (answer_lines 0 (take i xs)) → GainsPrefix b c (answer_line i x) → GainsPrefix a c (answer_lines 0 xs)
-lines_front a b c xs i x inside is first front =
-    let line : GainsPrefix a c (answer_lines 0 (take i xs) ++ answer_line i x) = GainsPrefix-++ a b c (answer_lines 0 (take i xs)) (answer_line i x) first front in
-    let more : GainsPrefix a c (answer_lines 0 (take (i + 1) xs)) = rw (answer_lines-take_more xs i x inside is) line in
-    rw (answer_lines-split xs (i + 1))
-    (GainsPrefix-more a c (answer_lines 0 (take (i + 1) xs)) (answer_lines (0 + length (take (i + 1) xs)) (drop (i + 1) xs)) more)
+pub WroteFront-lines : {a b c : SinkState} (xs : List (Option ℕ)) (i : ℕ) (x : Option ℕ) → i < length xs → x ≡ get_or xs i None →
+    WroteAll a b (answer_lines 0 (take i xs)) → WroteFront b c (answer_line i x) → WroteFront a c (answer_lines 0 xs)
+WroteFront-lines {a} {b} {c} xs i x inside is first front =
+    let line : WroteFront a c (answer_lines 0 (take i xs) ++ answer_line i x) = WroteFront-++ first front in
+    let more : WroteFront a c (answer_lines 0 (take (i + 1) xs)) = rw (answer_lines-take_more xs i x inside is) line in
+    rw (answer_lines-split xs (i + 1)) (WroteFront-more (answer_lines (0 + length (take (i + 1) xs)) (drop (i + 1) xs)) more)

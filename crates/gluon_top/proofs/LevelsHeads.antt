@@ -3,7 +3,7 @@ use Rattle.std.proofs.Common.{◌≡◌, ℕ, ◌+◌, ◌<◌, ◌≤◌, List,
 use Rattle.std.proofs.lemmas.Bool.{cases_lt}
 use Rattle.std.proofs.lemmas.Option.{slice_get_within, slice_get-get_or}
 use Rattle.graph_model.specs.declared.edge.Edge.{Edge}
-use Rattle.graph_model.proofs.Places.{slice_get_once, slice_get-set_same}
+use Rattle.list_laws.proofs.Places.{slice_get_once, slice_get-set_same}
 use Rattle.gluon_top.specs.LevelsSteps.{IsReached}
 use Rattle.gluon_top.proofs.LevelsSearch.{distances_stay_at_set}
 

@@ -10,7 +10,7 @@ use Rattle.graph_model.specs.Walks.{IsWalk}
 use Rattle.graph_model.specs.Least.{Gives, IsLeast, bfs_fares}
 use Rattle.graph_model.specs.declared.edge.Edge.{Edge}
 use Rattle.graph_model.proofs.WalkLaws.{IsWalk_from, cost_of_ones}
-use Rattle.graph_model.proofs.Places.{slice_get-set_same, slice_get_set_cases, slice_get_once, Contains_map_from}
+use Rattle.list_laws.proofs.Places.{slice_get-set_same, slice_get_set_cases, slice_get_once, Contains_map_from}
 use Rattle.gluon_top.specs.Distances.{AreLevels}
 use Rattle.gluon_top.specs.LevelsSteps.{HasDistance}
 use Rattle.gluon_top.proofs.LevelsSearch.{IsSearch, IsAt, counted_set, same_distance}

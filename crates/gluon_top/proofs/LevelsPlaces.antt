@@ -5,7 +5,7 @@ use Rattle.std.proofs.lemmas.List.{get_or-take, get_or-drop, length-take, length
 use Rattle.std.proofs.lemmas.Option.{slice_get_within, get_or_from_slice_get, slice_get-get_or}
 use Rattle.graph_model.specs.Graph.{IsBySource}
 use Rattle.graph_model.specs.declared.edge.Edge.{Edge}
-use Rattle.graph_model.proofs.Places.{element_at, slice_get_once, Contains-from_slice_get, All-from_slice_get}
+use Rattle.list_laws.proofs.Places.{element_at, slice_get_once, Contains-from_slice_get, All-from_slice_get}
 use Rattle.gluon_top.specs.LevelsSteps.{IsFirstFrom, AreFirstEdges, AreEdgesOf}
 
 -- the places of the sources so far, where the edges before `place` have been read

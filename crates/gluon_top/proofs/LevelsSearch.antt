@@ -10,7 +10,7 @@ use Rattle.graph_model.specs.Arcs.{Arc, out_arc}
 use Rattle.graph_model.specs.Walks.{IsWalk}
 use Rattle.graph_model.specs.declared.edge.Edge.{Edge}
 use Rattle.graph_model.proofs.WalkLaws.{IsWalk_push}
-use Rattle.graph_model.proofs.Places.{element_at, slice_get-append_left, slice_get_push, slice_get_push_cases, slice_get-set_same, slice_get-set_other, slice_get_set_cases, slice_get_once, Contains-map}
+use Rattle.list_laws.proofs.Places.{element_at, slice_get-append_left, slice_get_push, slice_get_push_cases, slice_get-set_same, slice_get-set_other, slice_get_set_cases, slice_get_once, Contains-map}
 use Rattle.gluon_top.specs.LevelsSteps.{HasDistance, IsReached, Reached, nothing, head, AreEdgesOf}
 
 -- a walk from the root along these edges, of this many arcs

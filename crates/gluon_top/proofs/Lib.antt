@@ -1,8 +1,8 @@
-pub mod Numbers
-pub mod Loading
-pub mod Outcomes
-pub mod AnswerLines
 pub mod LevelsPlaces
-pub mod LevelsSearch
 pub mod LevelsHeads
+pub mod LevelsSearch
 pub mod LevelsLeast
+pub mod AnswerLines
+pub mod Loading
+pub mod Sizes
+pub mod Outcomes

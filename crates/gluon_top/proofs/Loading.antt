@@ -1,51 +1,48 @@
--- From what the reader says of the head and of the rest to what the graph means.
-use Rattle.std.proofs.Common.{◌≡◌, ℕ, ◌<◌, ◌≤◌, List, Option, Some, None, Result, Ok, Err, IfSome, true, false, nat_lt, refl}
+-- From what the reader says of the head and of the rest to what the graph means, and from that to what words and
+-- bytes mean.
+use Rattle.std.proofs.Common.{◌≡◌, ◌⊎◌, inl, inr, ℕ, ◌+◌, ◌<◌, ◌≤◌, List, Option, Some, None, Result, Ok, Err, IfSome, Bool, true, false, nat_lt, refl, arith, drop, sym, ◌∙◌, ap, length}
+use Rattle.std.specs.Prelude.{IsSomeAnd, ◌==◌, ◌||◌, nat_le}
 use Rattle.std.proofs.lemmas.Bool.{lt-ltb, le-ltb}
 use Rattle.std.proofs.lemmas.Option.{IfSome_then}
-use Rattle.graph_model.specs.Graph.{Graph}
+use Rattle.graph_model.specs.Graph.{Graph, most_nodes, most_edges}
 use Rattle.gr_reader.specs.declared.head.Head.{Head}
 use Rattle.gr_reader.specs.declared.fault.GrFault.{GrFault}
-use Rattle.gr_reader.specs.declared.fault.GrFault.TheVariants.{Ends, Version, EdgeSize, Nodes, Edges, IndexFalls, IndexEnds, Destination, Read}
 use Rattle.gr_reader.specs.declared.fault.GrFault.TheVariants as reading
-use Rattle.gr_reader.specs.File.{head_at, rest_at}
+use Rattle.gr_reader.specs.declared.section.Section.TheVariants as section
+use Rattle.gr_reader.specs.Cause as causes
+use Rattle.gr_reader.specs.File.{◌>>=◌, demand, long_at, head_at, rest_at}
 use Rattle.gr_reader.specs.Reading.{Means, Refuses}
+use Rattle.gr_reader.specs.Reach.{TakesAtMost, reach, file_reach}
+use Rattle.gr_reader.proofs.TakingLaws.{TakesAtMost-then}
+use Rattle.graph_maker.specs.MadeGraph.{made_graph}
+use Rattle.gr_writer.specs.File.{file_of}
 use Rattle.gluon_top.specs.declared.fault.Fault.{Fault}
 use Rattle.gluon_top.specs.declared.fault.Fault.TheVariants.{Words, Root, Input, Memory}
-use Rattle.gluon_top.specs.Meaning.{graph_of, search_of}
-use Rattle.gluon_top.specs.Outcome.{Stops, Loads, Finds}
-use Rattle.gluon_top.specs.Words.{root_of}
+use Rattle.gluon_top.specs.declared.task.Task.{Task}
+use Rattle.gluon_top.specs.declared.task.Task.TheVariants as task
+use Rattle.gluon_top.specs.Fault.{Cause, Meant, FailedRead, NoMemory, cause_of, cause_of_input}
+use Rattle.gluon_top.specs.Tasks.{task_of, reads_input}
 use Rattle.gluon_top.specs.Distances.{AreLevels}
+use Rattle.gluon_top.specs.Meaning.{Answer, searched, generated, answer_lines, answer_of, graph_of, meaning_of, OfBytes, OfInput, IsText}
+use Rattle.gluon_top.specs.Outcome.{IfMeant, Stops, Finds, Leaves, LeftAfter}
+use Rattle.gluon_top.specs.Search.{Loads, FoundDistances, FindsDistances}
+
+-- what follows from a fault that bytes have, of a fault of the call
+input_stops : (cause : causes.Cause) (P Q : Type 0) → (P → Q) → causes.IfBytes cause P → IfMeant (cause_of_input cause) Q
+input_stops (causes.BytesOf part) P Q follows p = follows p
+input_stops causes.FailedRead P Q follows p = tt
+input_stops causes.NoMemory P Q follows p = tt
 
 -- a fault of the reader, told as one of the call
 stops : {Y Z : Type 0} (fault : GrFault) (meaning : Result (Y × List ℕ) GrFault) (whole : Result Z Fault) →
-    ((f : GrFault) → meaning ≡ Err f → whole ≡ Err (Input f)) → Refuses fault meaning → Stops (Input fault) whole
-stops (Ends section got) meaning whole follows is = follows _ is
-stops (Version version) meaning whole follows is = follows _ is
-stops (EdgeSize size) meaning whole follows is = follows _ is
-stops (Nodes nodes) meaning whole follows is = follows _ is
-stops (Edges edges) meaning whole follows is = follows _ is
-stops (IndexFalls node) meaning whole follows is = follows _ is
-stops (IndexEnds got want) meaning whole follows is = follows _ is
-stops (Destination edge dst) meaning whole follows is = follows _ is
-stops Read meaning whole follows is = tt
-stops reading.Memory meaning whole follows is = tt
+    (meaning ≡ Err fault → whole ≡ Err (Input fault)) → Refuses fault meaning → Stops (Input fault) whole
+stops fault meaning whole follows refuses = input_stops (causes.cause_of fault) _ _ follows refuses
 
--- a fault of one meaning, told as one of another
-same_stop : {Y Z : Type 0} (fault : Fault) (meaning : Result Y Fault) (whole : Result Z Fault) →
-    ((f : Fault) → meaning ≡ Err f → whole ≡ Err f) → Stops fault meaning → Stops fault whole
-same_stop Words meaning whole follows is = follows _ is
-same_stop (Root root nodes) meaning whole follows is = follows _ is
-same_stop (Input (Ends section got)) meaning whole follows is = follows _ is
-same_stop (Input (Version version)) meaning whole follows is = follows _ is
-same_stop (Input (EdgeSize size)) meaning whole follows is = follows _ is
-same_stop (Input (Nodes nodes)) meaning whole follows is = follows _ is
-same_stop (Input (Edges edges)) meaning whole follows is = follows _ is
-same_stop (Input (IndexFalls node)) meaning whole follows is = follows _ is
-same_stop (Input (IndexEnds got want)) meaning whole follows is = follows _ is
-same_stop (Input (Destination edge dst)) meaning whole follows is = follows _ is
-same_stop (Input Read) meaning whole follows is = tt
-same_stop (Input reading.Memory) meaning whole follows is = tt
-same_stop Memory meaning whole follows is = tt
+-- what follows of a fault that is meant
+pub IfMeant-map : (cause : Cause) (P Q : Type 0) → (P → Q) → IfMeant cause P → IfMeant cause Q
+IfMeant-map Meant P Q follows p = follows p
+IfMeant-map FailedRead P Q follows p = tt
+IfMeant-map NoMemory P Q follows p = tt
 
 -- the head is refused
 pub head_stops : (root : ℕ) (left after : Option (List ℕ)) (fault : GrFault) →
@@ -53,7 +50,7 @@ pub head_stops : (root : ℕ) (left after : Option (List ℕ)) (fault : GrFault)
     IfSome left (λ bytes. Loads (Err (Input fault)) after (graph_of root bytes))
 unfolding graph_of
 head_stops root left after fault means = IfSome_then left means (λ bytes refuses.
-    stops fault (head_at bytes) (graph_of root bytes) (λ f is. rw is refl) refuses)
+    stops fault (head_at bytes) (graph_of root bytes) (λ is. rw is refl) refuses)
 
 -- the root is no node
 pub root_stops : (root : ℕ) (left after : Option (List ℕ)) (head : Head) → head.nodes ≤ root →
@@ -73,7 +70,7 @@ unfolding graph_of
 rest_stops root left None after head fault node means refuses = IfSome_then left means (λ bytes found. absurd found)
 rest_stops root left (Some rest) after head fault node means refuses = IfSome_then left means (λ bytes found.
     let inside : nat_lt root head.nodes ≡ true = lt-ltb root head.nodes node in
-    stops fault (rest_at head rest) (graph_of root bytes) (λ f is. rw (found, inside, is) refl) refuses)
+    stops fault (rest_at head rest) (graph_of root bytes) (λ is. rw (found, inside, is) refl) refuses)
 
 -- the graph is loaded
 pub loads : (root : ℕ) (left between after : Option (List ℕ)) (head : Head) (graph : Graph) → root < head.nodes →
@@ -86,26 +83,125 @@ loads root left (Some rest) None head graph node means loaded = IfSome_then left
 loads root left (Some rest) (Some last) head graph node means loaded = IfSome_then left means (λ bytes found.
     let inside : nat_lt root head.nodes ≡ true = lt-ltb root head.nodes node in rw (found, inside, loaded) refl)
 
+-- ---- what is left after a fault
+
+-- a head that is accepted, and what follows it
+abbrev accepted : Head × List ℕ → Result (Head × List ℕ) GrFault
+accepted found = Ok found
+
+same_accepted : (x y : Head × List ℕ) → accepted x ≡ accepted y → x ≡ y
+same_accepted x y e = cc
+
+-- where five demands are met, what follows them comes
+all_met : (a b c d e : Bool) (f g h i j : GrFault) (x y : Head) (xs ys : List ℕ) →
+    (demand a f >>= λ _. (demand b g >>= λ _. (demand c h >>= λ _. (demand d i >>= λ _. (demand e j >>= λ _. accepted (x, xs)))))) ≡ accepted (y, ys) → ys ≡ xs
+all_met true true true true true f g h i j x y xs ys same = ap (λ (found : Head × List ℕ). found.1) (sym (same_accepted (x, xs) (y, ys) same))
+all_met false b c d e f g h i j x y xs ys same = cc
+all_met true false c d e f g h i j x y xs ys same = cc
+all_met true true false d e f g h i j x y xs ys same = cc
+all_met true true true false e f g h i j x y xs ys same = cc
+all_met true true true true false f g h i j x y xs ys same = cc
+
+-- what follows a head is behind 32 bytes
+head_rest : (bytes rest : List ℕ) (head : Head) → head_at bytes ≡ Ok (head, rest) → rest ≡ drop 32 bytes
+unfolding head_at
+head_rest bytes rest head is =
+    all_met (nat_le 32 (length bytes)) (long_at 0 bytes == 1) (long_at 8 bytes == 0 || long_at 8 bytes == 4) (nat_le (long_at 16 bytes) most_nodes) (nat_le (long_at 24 bytes) most_edges)
+    (reading.Ends section.Head (length bytes)) (reading.Version (long_at 0 bytes)) (reading.EdgeSize (long_at 8 bytes)) (reading.Nodes (long_at 16 bytes)) (reading.Edges (long_at 24 bytes))
+    (record { version = long_at 0 bytes; edge_size = long_at 8 bytes; nodes = long_at 16 bytes; edges = long_at 24 bytes }) head (drop 32 bytes) rest is
+
+-- a fault of the head
+pub head_left : (left after : Option (List ℕ)) (fault : GrFault) →
+    IfSome left (λ bytes. Means {X = Head} {Y = Head} (λ head. head) (Err fault) after (head_at bytes)) → TakesAtMost 32 left after →
+    IfMeant (cause_of (Input fault)) (IfSome left (λ bytes. LeftAfter bytes (Input fault) after))
+head_left None after fault means taken = input_stops (causes.cause_of fault) _ _ (λ u. u) (IfBytes-all (causes.cause_of fault))
+  where
+    IfBytes-all : (cause : causes.Cause) → causes.IfBytes cause (Unit {0})
+    IfBytes-all (causes.BytesOf part) = tt
+    IfBytes-all causes.FailedRead = tt
+    IfBytes-all causes.NoMemory = tt
+head_left (Some bytes) after fault means taken = input_stops (causes.cause_of fault) _ _ (λ is. rw is taken) means
+
+-- the root is no node
+pub root_left : (root : ℕ) (left after : Option (List ℕ)) (head : Head) →
+    IfSome left (λ bytes. Means {X = Head} {Y = Head} (λ head. head) (Ok head) after (head_at bytes)) →
+    IfSome left (λ bytes. LeftAfter bytes (Root root head.nodes) after)
+root_left root None after head means = tt
+root_left root (Some bytes) None head means = absurd means
+root_left root (Some bytes) (Some rest) head means = ap Some (head_rest bytes rest head means)
+
+-- a fault of what follows the head
+pub rest_left : (left between after : Option (List ℕ)) (head : Head) (fault : GrFault) →
+    IfSome left (λ bytes. Means {X = Head} {Y = Head} (λ head. head) (Ok head) between (head_at bytes)) → TakesAtMost 32 left between →
+    TakesAtMost (reach {X = Graph} head (Err fault)) between after →
+    IfMeant (cause_of (Input fault)) (IfSome left (λ bytes. LeftAfter bytes (Input fault) after))
+rest_left None between after head fault means first second = IfMeant-all (cause_of (Input fault))
+  where
+    IfMeant-all : (cause : Cause) → IfMeant cause (Unit {0})
+    IfMeant-all Meant = tt
+    IfMeant-all FailedRead = tt
+    IfMeant-all NoMemory = tt
+rest_left (Some bytes) None after head fault means first second = absurd means
+rest_left (Some bytes) (Some rest) after head fault means first second =
+    let all : TakesAtMost (32 + reach {X = Graph} head (Err fault)) (Some bytes) after = TakesAtMost-then 32 (reach {X = Graph} head (Err fault)) _ (Some bytes) (Some rest) after (omega arith) first second in
+    let known : LeftAfter bytes (Input fault) after = rw means all in
+    always (cause_of (Input fault)) known
+  where
+    always : (cause : Cause) → LeftAfter bytes (Input fault) after → IfMeant cause (LeftAfter bytes (Input fault) after)
+    always Meant p = p
+    always FailedRead p = tt
+    always NoMemory p = tt
+
+-- ---- what words and bytes mean
+
 -- the words are refused
-pub words_stops : (words : List (List ℕ)) (left after : Option (List ℕ)) → root_of words ≡ None →
-    IfSome left (λ bytes. Finds {X = List (Option ℕ)} (λ distances. distances) (Err Words) after (search_of words bytes))
-unfolding search_of
-words_stops words None after none = tt
-words_stops words (Some bytes) after none = rw none refl
+pub words_stops : {X : Type 0} (text_of : X → List ℕ) (words : List (List ℕ)) (left after : Option (List ℕ)) → task_of words ≡ None →
+    OfInput words left (λ bytes. Finds text_of (Err Words) after (meaning_of words bytes))
+unfolding meaning_of
+words_stops text_of words left after none = rw none refl
 
--- the graph is refused
-pub graph_stops : (words : List (List ℕ)) (root : ℕ) (left after : Option (List ℕ)) (fault : Fault) → root_of words ≡ Some root →
-    IfSome left (λ bytes. Loads (Err fault) after (graph_of root bytes)) →
-    IfSome left (λ bytes. Finds {X = List (Option ℕ)} (λ distances. distances) (Err fault) after (search_of words bytes))
-unfolding search_of
-graph_stops words root left after fault named means = IfSome_then left means (λ bytes refuses.
-    same_stop fault (graph_of root bytes) (search_of words bytes) (λ f is. rw (named, is) refl) refuses)
+-- want of memory says nothing of them
+pub memory_stops : {X : Type 0} (text_of : X → List ℕ) (words : List (List ℕ)) (left after : Option (List ℕ)) →
+    OfInput words left (λ bytes. Finds text_of (Err Memory) after (meaning_of words bytes))
+memory_stops text_of words left after = always (reads_input (task_of words)) left
+  where
+    always : (needed : Bool) (left : Option (List ℕ)) → OfBytes needed left (λ bytes. Finds text_of (Err Memory) after (meaning_of words bytes))
+    always true None = tt
+    always true (Some bytes) = tt
+    always false left = tt
 
--- the answers are found
-pub finds : (words : List (List ℕ)) (root : ℕ) (left after : Option (List ℕ)) (graph : Graph) (distances : List (Option ℕ)) → root_of words ≡ Some root →
-    IfSome left (λ bytes. Loads (Ok graph) after (graph_of root bytes)) → AreLevels graph root distances →
-    IfSome left (λ bytes. Finds {X = List (Option ℕ)} (λ distances. distances) (Ok distances) after (search_of words bytes))
-unfolding search_of
-finds words root left None graph distances named means levels = IfSome_then left means (λ bytes found. absurd found)
-finds words root left (Some rest) graph distances named means levels = IfSome_then left means (λ bytes found.
-    (record { root = root; graph = graph; after = rest }, rw (named, found) refl, refl, levels))
+-- the distances are found
+pub distances_found : {X : Type 0} (text_of : X → List ℕ) (words : List (List ℕ)) (root : ℕ) (left after : Option (List ℕ)) (x : X) (distances : List (Option ℕ)) → task_of words ≡ Some (task.Search root) →
+    text_of x ≡ answer_lines 0 distances →
+    IfSome left (λ bytes. FoundDistances root distances after (graph_of root bytes)) →
+    OfInput words left (λ bytes. Finds text_of (Ok x) after (meaning_of words bytes))
+unfolding meaning_of answer_of
+distances_found text_of words root left after x distances asked text found =
+    rw asked (IfSome_then left found (λ bytes f. (
+      searched root f.graph f.after,
+      rw f.means refl,
+      f.leaves,
+      record { distances = distances; least = f.levels; lines = text },
+    )))
+
+-- the search has a fault
+pub search_stops : {X : Type 0} (text_of : X → List ℕ) (words : List (List ℕ)) (root : ℕ) (left after : Option (List ℕ)) (fault : Fault) → task_of words ≡ Some (task.Search root) →
+    IfSome left (λ bytes. Stops fault (graph_of root bytes)) →
+    OfInput words left (λ bytes. Finds text_of (Err fault) after (meaning_of words bytes))
+unfolding meaning_of answer_of
+search_stops text_of words root left after fault asked stopped =
+    rw asked (IfSome_then left stopped (λ bytes stop. IfMeant-map (cause_of fault) _ _ (λ is. rw is refl) stop))
+
+-- the graph is made
+pub graph_made : {X : Type 0} (text_of : X → List ℕ) (words : List (List ℕ)) (size number : ℕ) (left after : Option (List ℕ)) (x : X) → task_of words ≡ Some (task.Make size number) →
+    text_of x ≡ file_of 4 (made_graph size number) →
+    OfInput words left (λ bytes. Finds text_of (Ok x) after (meaning_of words bytes))
+unfolding meaning_of answer_of
+graph_made text_of words size number left after x asked text =
+    rw asked (generated (made_graph size number), refl, tt, text)
+
+-- refused words, or want of memory
+pub refused_stops : {X : Type 0} (text_of : X → List ℕ) (words : List (List ℕ)) (left after : Option (List ℕ)) (fault : Fault) → (fault ≡ Words) ⊎ (fault ≡ Memory) → (fault ≡ Words → task_of words ≡ None) →
+    OfInput words left (λ bytes. Finds text_of (Err fault) after (meaning_of words bytes))
+refused_stops text_of words left after fault (inl is) none = rw is (words_stops text_of words left after (none is))
+refused_stops text_of words left after fault (inr is) none = rw is (memory_stops text_of words left after)

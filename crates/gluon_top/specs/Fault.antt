@@ -3,10 +3,11 @@ use Rattle.std.specs.Prelude.{ℕ, List, [], ◌∷◌, ◌++◌, codes, decimal
 use Rattle.answer_writer.specs.Lines.{words_line}
 use Rattle.gr_reader.specs.declared.fault.GrFault.{GrFault}
 use Rattle.gr_reader.specs.declared.fault.GrFault.TheVariants as reading
+use Rattle.gr_reader.specs.Cause as causes
 use Rattle.gr_reader.specs.declared.section.Section.{Section}
 use Rattle.gr_reader.specs.declared.section.Section.TheVariants as section
-use Rattle.gluon_top.specs.declared.fault.Line.{Line}
-use Rattle.gluon_top.specs.declared.fault.Line.TheVariants as line
+use Rattle.gluon_top.specs.declared.line.Line.{Line}
+use Rattle.gluon_top.specs.declared.line.Line.TheVariants as line
 use Rattle.gluon_top.specs.declared.fault.Fault.{Fault}
 use Rattle.gluon_top.specs.declared.fault.Fault.TheVariants.{Words, Root, Input, Memory}
 
@@ -38,21 +39,44 @@ fault_line (Root root nodes) = codes "fault: root " ++ decimal root ++ words_lin
 fault_line (Input fault) = input_line fault
 fault_line Memory = []
 
+-- what a fault comes from: what the words and the bytes say, a read that failed, or want of memory
+pub data Cause : Type 0 where
+  Meant : Cause
+  FailedRead : Cause
+  NoMemory : Cause
+
+-- what a fault of the reader comes from
+abbrev pub cause_of_input : causes.Cause → Cause
+cause_of_input (causes.BytesOf part) = Meant
+cause_of_input causes.FailedRead = FailedRead
+cause_of_input causes.NoMemory = NoMemory
+
+-- what a fault comes from
+abbrev pub cause_of : Fault → Cause
+cause_of Words = Meant
+cause_of (Root root nodes) = Meant
+cause_of (Input fault) = cause_of_input (causes.cause_of fault)
+cause_of Memory = NoMemory
+
+-- the status of a fault that comes from the input
+abbrev pub status_by : Cause → ℕ
+status_by Meant = 3
+status_by FailedRead = 7
+status_by NoMemory = 4
+
 -- the status with which the program ends
 abbrev pub status_of : Fault → ℕ
 status_of Words = 2
 status_of (Root root nodes) = 3
-status_of (Input reading.Read) = 7
-status_of (Input reading.Memory) = 4
-status_of (Input _) = 3
+status_of (Input fault) = status_by (cause_of (Input fault))
 status_of Memory = 4
 
 -- the text of a line
 abbrev pub line_text : Line → List ℕ
-line_text (line.Plain text) = words_line text.now []
-line_text (line.Number text number) = words_line text.now (number ∷ [])
-line_text (line.Middle before number after) = before.now ++ decimal number ++ words_line after.now []
-line_text (line.Both before number after last) = before.now ++ decimal number ++ words_line after.now (last ∷ [])
+line_text (line.Text text) = words_line text.now []
+line_text (line.EndsWithNumber text number) = words_line text.now (number ∷ [])
+line_text (line.AroundNumber before number after) = before.now ++ decimal number ++ words_line after.now []
+line_text (line.AroundAndEndsWithNumber before number after last) = before.now ++ decimal number ++ words_line after.now (last ∷ [])
 
 -- the text of a line, and nothing where there is none
 abbrev pub line_text_or_none : Option Line → List ℕ

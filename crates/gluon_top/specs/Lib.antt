@@ -1,6 +1,9 @@
-pub mod Words
+pub mod Tasks
 pub mod Fault
 pub mod Distances
 pub mod LevelsSteps
 pub mod Meaning
 pub mod Outcome
+pub mod Answers
+pub mod Search
+pub mod Lines

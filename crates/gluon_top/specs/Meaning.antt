@@ -1,21 +1,26 @@
 -- What the words and the bytes of the input together mean: a status and a text.
-use Rattle.std.specs.Prelude.{◌≡◌, ℕ, ◌+◌, List, [], ◌∷◌, ◌++◌, Option, Some, None, Result, Ok, Err, nat_lt, if◌then◌else◌}
+use Rattle.std.specs.Prelude.{◌≡◌, ℕ, ◌+◌, Bool, true, false, List, [], ◌∷◌, ◌++◌, Option, Some, None, IfSome, Result, Ok, Err, nat_lt, if◌then◌else◌}
 use Rattle.graph_model.specs.Graph.{Graph}
 use Rattle.gr_reader.specs.declared.fault.GrFault.{GrFault}
 use Rattle.gr_reader.specs.declared.head.Head.{Head}
 use Rattle.gr_reader.specs.File.{head_at, rest_at}
+use Rattle.gr_writer.specs.File.{file_of}
+use Rattle.graph_maker.specs.MadeGraph.{made_graph}
+use Rattle.answer_writer.specs.Lines.{answer_line}
 use Rattle.gluon_top.specs.declared.fault.Fault.{Fault}
 use Rattle.gluon_top.specs.declared.fault.Fault.TheVariants.{Words, Root, Input}
+use Rattle.gluon_top.specs.declared.task.Task.{Task}
+use Rattle.gluon_top.specs.declared.task.Task.TheVariants as task
 use Rattle.gluon_top.specs.Fault.{fault_line, status_of}
-use Rattle.answer_writer.specs.Lines.{answer_line}
-use Rattle.gluon_top.specs.Words.{root_of}
+use Rattle.gluon_top.specs.Tasks.{task_of, reads_input}
 use Rattle.gluon_top.specs.Distances.{AreLevels}
 
--- a search that may run: where it starts, over which graph, and the bytes that the file does not use
-pub record Search : Type 0 where
-  pub root : ℕ
-  pub graph : Graph
-  pub after : List ℕ
+-- what a task comes to
+pub data Answer : Type 0 where
+  -- the distances from a root in the graph of the input, behind whose file these bytes are left
+  searched : (root : ℕ) (graph : Graph) (after : List ℕ) → Answer
+  -- a made graph
+  generated : (graph : Graph) → Answer
 
 -- a fault of the file is a fault of the call
 abbrev pub of_input : {A : Type 0} → Result A GrFault → Result A Fault
@@ -28,10 +33,10 @@ abbrev pub ◌>>=◌ : {A B : Type 0} → Result A Fault → (A → Result B Fau
 (Ok x) >>= f = f x
 (Err fault) >>= f = Err fault
 
--- the root that was found, else the words are refused
-abbrev pub demand_root : Option ℕ → Result ℕ Fault
-demand_root (Some root) = Ok root
-demand_root None = Err Words
+-- the task that was found, else the words are refused
+abbrev pub demand_task : Option Task → Result Task Fault
+demand_task (Some task) = Ok task
+demand_task None = Err Words
 
 -- nothing where the root is a node, else the fault
 abbrev pub demand_node : ℕ → Head → Result (Unit {0}) Fault
@@ -45,12 +50,18 @@ graph_of root bytes = do
   _ ← demand_node root head.0
   of_input (rest_at head.0 head.1)
 
--- the search that the words and the bytes ask for, or the first fault
-unfoldable pub search_of : List (List ℕ) → List ℕ → Result Search Fault
-search_of words bytes = do
-  root ← demand_root (root_of words)
+-- what a task comes to on these bytes, or the first fault
+unfoldable pub answer_of : Task → List ℕ → Result Answer Fault
+answer_of (task.Search root) bytes = do
   file ← graph_of root bytes
-  Ok (record { root = root; graph = file.0; after = file.1 })
+  Ok (searched root file.0 file.1)
+answer_of (task.Make size number) bytes = Ok (generated (made_graph size number))
+
+-- what the words and the bytes ask for, or the first fault
+unfoldable pub meaning_of : List (List ℕ) → List ℕ → Result Answer Fault
+meaning_of words bytes = do
+  task ← demand_task (task_of words)
+  answer_of task bytes
 
 -- the lines of the nodes from v on: each with its distance, or `-` where it has none
 abbrev pub answer_lines : ℕ → List (Option ℕ) → List ℕ
@@ -58,15 +69,30 @@ answer_lines v [] = []
 answer_lines v (distance ∷ distances) = answer_line v distance ++ answer_lines (v + 1) distances
 
 -- the text of a search
-pub record IsAnswer (root : ℕ) (graph : Graph) (text : List ℕ) : Type 0 where
+pub record IsSearchText (root : ℕ) (graph : Graph) (text : List ℕ) : Type 0 where
   pub distances : List (Option ℕ)
   pub least : AreLevels graph root distances
   pub lines : text ≡ answer_lines 0 distances
 
--- The status and the text that the words and the bytes mean: of the first fault, or 0 and the distances.
-abbrev pub MeansSearch : Result Search Fault → ℕ → List ℕ → Type 0
-MeansSearch (Ok search) status text = (status ≡ 0) × IsAnswer search.root search.graph text
-MeansSearch (Err fault) status text = (status ≡ status_of fault) × (text ≡ fault_line fault)
+-- the text of an answer: a line for each node, or a file with weights of four bytes
+abbrev pub IsText : Answer → List ℕ → Type 0
+IsText (searched root graph after) text = IsSearchText root graph text
+IsText (generated graph) text = text ≡ file_of 4 graph
 
+-- the status and the text of a fault, or 0 and the text of the answer
+abbrev pub MeansText : Result Answer Fault → ℕ → List ℕ → Type 0
+MeansText (Ok answer) status text = (status ≡ 0) × IsText answer text
+MeansText (Err fault) status text = (status ≡ status_of fault) × (text ≡ fault_line fault)
+
+-- the status and the text that the words and the bytes mean
 abbrev pub Meaning : List (List ℕ) → List ℕ → ℕ → List ℕ → Type 0
-Meaning words bytes status text = MeansSearch (search_of words bytes) status text
+Meaning words bytes status text = MeansText (meaning_of words bytes) status text
+
+-- this holds of the bytes, as far as they are told and needed
+abbrev pub OfBytes : (needed : Bool) → Option (List ℕ) → (List ℕ → Type 0) → Type 0
+OfBytes true left holds = IfSome left holds
+OfBytes false left holds = holds []
+
+-- this holds of the bytes of the input: of all that the source tells, and of none where the words ask for no input
+abbrev pub OfInput : List (List ℕ) → Option (List ℕ) → (List ℕ → Type 0) → Type 0
+OfInput words left holds = OfBytes (reads_input (task_of words)) left holds

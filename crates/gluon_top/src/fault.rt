@@ -1,21 +1,28 @@
 //! Why a job came to no answer.
-ghost use Rattle.std.specs.Prelude.{◌≡◌, None};
+ghost use Rattle.std.specs.Prelude.{◌≡◌};
 ghost use Rattle.gluon_top.specs.Fault.{ends_text, fault_line, input_line, line_text_or_none, status_of};
 ghost use Rattle.gluon_top.specs.declared.fault.Fault.TheVariants.{Input, Memory};
 
+use crate::line::Line;
+use crate::status::{INPUT_REFUSED, NO_MEMORY, READ_FAILED, WORDS_REFUSED};
 use gr_reader::{GrFault, Section};
 use std::alloc::AllocError;
 use thiserror::Error;
 
 /// The first of the faults that the words and the input have, or want of memory.
 #[derive(Clone, Copy, Debug, PartialEq, Eq, Drop, Error)]
-pub(crate) enum Fault {
+pub enum Fault {
     /// The words name no job.
     #[error("the words name no job")]
     Words,
     /// The root is no node of the graph.
     #[error("the root {root} is not below {nodes}")]
-    Root { root: u32, nodes: u32 },
+    Root {
+        /// The root that the words name.
+        root: u32,
+        /// The number of nodes of the graph.
+        nodes: u32,
+    },
     /// The bytes are no graph, or could not be read.
     #[error("{0}")]
     Input(GrFault),
@@ -40,41 +47,27 @@ impl From<AllocError> for Fault {
     }
 }
 
-/// The line of a fault.
-#[derive(Clone, Copy, Debug)]
-pub(crate) enum Line {
-    /// A text alone.
-    Plain(&'static str),
-    /// A text, and after a space a number.
-    Number(&'static str, u64),
-    /// A text, a number, and the text that follows it.
-    Middle(&'static str, u64, &'static str),
-    /// A text, a number, the text that follows it, and after a space a second number.
-    Both(&'static str, u64, &'static str, u64),
-}
-
 impl Fault {
     /// The status with which the program ends.
     pub(crate) fn status(self) -> u8
         ensures { result ≡ status_of self }
     {
         match self {
-            Fault::Words => 2,
-            Fault::Root { .. } => 3,
-            Fault::Input(GrFault::Read) => 7,
-            Fault::Input(GrFault::Memory) | Fault::Memory => 4,
-            Fault::Input(_) => 3,
+            Fault::Words => WORDS_REFUSED,
+            Fault::Root { .. } => INPUT_REFUSED,
+            Fault::Input(GrFault::Read) => READ_FAILED,
+            Fault::Input(GrFault::Memory) | Fault::Memory => NO_MEMORY,
+            Fault::Input(_) => INPUT_REFUSED,
         }
     }
 
     /// The line that is written for it: none for want of memory.
     pub(crate) fn line(self) -> Option<Line>
-        ensures text { line_text_or_none result ≡ fault_line self }
-        ensures memory { status_of self ≡ 4 → result ≡ None }
+        ensures { line_text_or_none result ≡ fault_line self }
     {
         match self {
-            Fault::Words => Some(Line::Plain("fault: words")),
-            Fault::Root { root, nodes } => Some(Line::Both(
+            Fault::Words => Some(Line::Text("fault: words")),
+            Fault::Root { root, nodes } => Some(Line::AroundAndEndsWithNumber(
                 "fault: root ",
                 u64::from(root),
                 " of",
@@ -88,21 +81,30 @@ impl Fault {
 
 /// The line of a fault of the input.
 fn line_of_input(fault: GrFault) -> Option<Line>
-    ensures text { line_text_or_none result ≡ input_line fault }
-    ensures memory { fault ≡ GrFault.Memory → result ≡ None }
+    ensures { line_text_or_none result ≡ input_line fault }
 {
     let line = match fault {
-        GrFault::Ends { section, got } => Line::Middle(text_of_end(section), got, " bytes"),
-        GrFault::Version(version) => Line::Number("fault: version", version),
-        GrFault::EdgeSize(size) => Line::Number("fault: edge size", size),
-        GrFault::Nodes(nodes) => Line::Number("fault: nodes", nodes),
-        GrFault::Edges(edges) => Line::Number("fault: edges", edges),
-        GrFault::IndexFalls(node) => Line::Middle("fault: index ", u64::from(node), " falls"),
-        GrFault::IndexEnds { got, want } => Line::Both("fault: index ends at ", got, " of", want),
+        GrFault::Ends { section, got } => Line::AroundNumber(text_of_end(section), got, " bytes"),
+        GrFault::Version(version) => Line::EndsWithNumber("fault: version", version),
+        GrFault::EdgeSize(size) => Line::EndsWithNumber("fault: edge size", size),
+        GrFault::Nodes(nodes) => Line::EndsWithNumber("fault: nodes", nodes),
+        GrFault::Edges(edges) => Line::EndsWithNumber("fault: edges", edges),
+        GrFault::IndexFalls(node) => Line::AroundNumber("fault: index ", u64::from(node), " falls"),
+        GrFault::IndexEnds { got, want } => Line::AroundAndEndsWithNumber(
+            "fault: index ends at ",
+            got,
+            " of",
+            want,
+        ),
         GrFault::Destination { edge, dst } => {
-            Line::Both("fault: edge ", u64::from(edge), " goes to", u64::from(dst))
+            Line::AroundAndEndsWithNumber(
+                "fault: edge ",
+                u64::from(edge),
+                " goes to",
+                u64::from(dst),
+            )
         }
-        GrFault::Read => Line::Plain("fault: read"),
+        GrFault::Read => Line::Text("fault: read"),
         GrFault::Memory => return None,
     };
     Some(line)

@@ -1,26 +1,56 @@
 //! The text of each outcome: a line for each node, or one line for a fault.
-ghost use Rattle.std.specs.Prelude.{◌≡◌, ◌≤◌, ◌++◌, length, OnOk, OnErr, decimal};
+ghost use Rattle.std.specs.Prelude.{◌≡◌, ◌≤◌, ◌++◌, length, decimal, OnOk, OnErr};
 ghost use Rattle.io_edge.specs.Faults.{Rose};
 ghost use Rattle.io_edge.specs.Bytes.{Gains, GainsPrefix};
+ghost use Rattle.io_edge.specs.Writing.{Wrote};
 ghost use Rattle.answer_writer.specs.Lines.{words_line};
-ghost use Rattle.graph_model.specs.declared.edge_list.TheConstants.{MAX_NODES};
-ghost use Rattle.gluon_top.specs.Fault.{line_text};
+ghost use Rattle.graph_model.specs.Graph.{most_nodes};
+ghost use Rattle.gluon_top.specs.Fault.{fault_line, line_text};
 ghost use Rattle.gluon_top.specs.Meaning.{answer_lines};
+ghost use Rattle.gluon_top.specs.Lines.{lines_text, AreFewLines};
 
-use crate::fault::Line;
+use crate::fault::Fault;
+use crate::line::Line;
 use answer_writer::{write_answer, write_number, write_words};
-use io_edge::{Sink, SinkFault, write_whole};
+use io_edge::{PagedSink, Sink, SinkFault, write_whole};
 
-/// Writes a line for each node, from 0 on: its distance, or `-` for none.
-pub(crate) fn write_answers<K: Sink>(
-    sink: &mut K,
-    distances: &[Option<u32>],
-) -> Result<(), SinkFault>
-    requires { length distances.now ≤ MAX_NODES }
-    ensures whole { OnOk result (Gains (K.held sink.old) (K.held sink.new) (answer_lines 0 distances.now)) }
+/// Lines that are written.
+#[derive(Clone, Copy, Debug)]
+pub(crate) enum Lines<'a> {
+    /// A line for each node, from 0 on: its distance, or `-` for none.
+    Answers(&'a [Option<u32>]),
+    /// The line of a fault, which want of memory does not have.
+    Fault(Fault),
+}
+
+/// Writes lines in whole pages.
+pub(crate) fn write_lines<K: Sink>(sink: &mut K, lines: Lines<'_>) -> Result<(), SinkFault>
+    requires { AreFewLines lines }
+    ensures whole { OnOk result (Gains (K.held sink.old) (K.held sink.new) (lines_text lines.entry)) }
     ensures quiet { OnOk result (K.faults sink.new ≡ K.faults sink.old) }
     ensures rose { OnErr result (Rose (K.faults sink.old) (K.faults sink.new)) }
-    ensures prefix { OnErr result (GainsPrefix (K.held sink.old) (K.held sink.new) (answer_lines 0 distances.now)) }
+    ensures prefix { OnErr result (GainsPrefix (K.held sink.old) (K.held sink.new) (lines_text lines.entry)) }
+{
+    let mut page = PagedSink::new(sink);
+    write_each_line(&mut page, lines)?;
+    page.flush()
+}
+
+/// Writes lines one after another.
+fn write_each_line<K: Sink>(sink: &mut K, lines: Lines<'_>) -> Result<(), SinkFault>
+    requires { AreFewLines lines }
+    ensures written { Wrote K.Sink result sink.old sink.new (lines_text lines.entry) }
+{
+    match lines {
+        Lines::Answers(distances) => write_answers(sink, distances),
+        Lines::Fault(fault) => write_fault(sink, fault),
+    }
+}
+
+/// Writes a line for each node, from 0 on: its distance, or `-` for none.
+fn write_answers<K: Sink>(sink: &mut K, distances: &[Option<u32>]) -> Result<(), SinkFault>
+    requires { length distances.now ≤ most_nodes }
+    ensures written { Wrote K.Sink result sink.old sink.new (answer_lines 0 distances.now) }
 {
     for (v, distance) in distances.iter().enumerate() {
         write_answer(sink, v as u32, as_value(*distance))?;
@@ -38,20 +68,27 @@ fn as_value(distance: Option<u32>) -> Option<u64>
     }
 }
 
-/// Writes the line of a fault.
-pub(crate) fn write_line<K: Sink>(sink: &mut K, line: Line) -> Result<(), SinkFault>
-    ensures whole { OnOk result (Gains (K.held sink.old) (K.held sink.new) (line_text line)) }
-    ensures quiet { OnOk result (K.faults sink.new ≡ K.faults sink.old) }
-    ensures rose { OnErr result (Rose (K.faults sink.old) (K.faults sink.new)) }
-    ensures prefix { OnErr result (GainsPrefix (K.held sink.old) (K.held sink.new) (line_text line)) }
+/// Writes the line of a fault, which want of memory does not have.
+fn write_fault<K: Sink>(sink: &mut K, fault: Fault) -> Result<(), SinkFault>
+    ensures written { Wrote K.Sink result sink.old sink.new (fault_line fault) }
+{
+    match fault.line() {
+        Some(line) => write_line(sink, line),
+        None => Ok(()),
+    }
+}
+
+/// Writes a line.
+fn write_line<K: Sink>(sink: &mut K, line: Line) -> Result<(), SinkFault>
+    ensures written { Wrote K.Sink result sink.old sink.new (line_text line) }
 {
     match line {
-        Line::Plain(text) => write_words(sink, text, &[]),
-        Line::Number(text, number) => write_words(sink, text, &[number]),
-        Line::Middle(before, number, after) => {
+        Line::Text(text) => write_words(sink, text, &[]),
+        Line::EndsWithNumber(text, number) => write_words(sink, text, &[number]),
+        Line::AroundNumber(before, number, after) => {
             write_after_number(sink, before, number, after, &[])
         }
-        Line::Both(before, number, after, last) => {
+        Line::AroundAndEndsWithNumber(before, number, after, last) => {
             write_after_number(sink, before, number, after, &[last])
         }
     }
@@ -66,12 +103,7 @@ fn write_after_number<K: Sink>(
     after: &str,
     numbers: &[u64],
 ) -> Result<(), SinkFault>
-    ensures whole { OnOk result (Gains (K.held sink.old) (K.held sink.new)
-        (before.now ++ decimal number ++ words_line after.now numbers.now)) }
-    ensures quiet { OnOk result (K.faults sink.new ≡ K.faults sink.old) }
-    ensures rose { OnErr result (Rose (K.faults sink.old) (K.faults sink.new)) }
-    ensures prefix { OnErr result (GainsPrefix (K.held sink.old) (K.held sink.new)
-        (before.now ++ decimal number ++ words_line after.now numbers.now)) }
+    ensures written { Wrote K.Sink result sink.old sink.new (before.now ++ decimal number ++ words_line after.now numbers.now) }
 {
     write_whole(sink, before.as_bytes())?;
     write_number(sink, number)?;

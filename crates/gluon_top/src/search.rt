@@ -1,35 +1,32 @@
-//! From words and bytes to distances.
-ghost use Rattle.std.specs.Prelude.{◌≡◌, ◌↔◌, ◌≢◌, ◌<◌, ◌≤◌, IfOk, IfSome, vec_len, None, Err};
-ghost use Rattle.graph_model.specs.declared.edge_list.TheConstants.{MAX_NODES};
-ghost use Rattle.gluon_top.specs.Words.{root_of, texts_of};
-ghost use Rattle.gluon_top.specs.Meaning.{graph_of, search_of};
-ghost use Rattle.gluon_top.specs.Outcome.{Loads, Finds, Counts};
+//! From a root and bytes to distances.
+ghost use Rattle.std.specs.Prelude.{◌≡◌, ◌≢◌, ◌<◌, ◌≤◌, IfOk, IfErr, IfSome, vec_len, Err};
+ghost use Rattle.graph_model.specs.Graph.{most_nodes};
+ghost use Rattle.gluon_top.specs.Fault.{cause_of};
+ghost use Rattle.gluon_top.specs.Meaning.{graph_of};
+ghost use Rattle.gluon_top.specs.Outcome.{Counts, IfMeant, LeftAfter};
+ghost use Rattle.gluon_top.specs.Search.{Loads, FindsDistances};
 
 use crate::fault::Fault;
 use crate::levels::levels;
-use crate::words::named_root;
 use gr_reader::{GrReader, read_rest};
 use graph_model::EdgeList;
 use io_edge::Source;
 use std::alloc::Global;
 
-/// The distance of each node from the root that the words name, in the graph that the source gives; or
-/// the first fault.
+/// The distance of each node from the root, in the graph that the source gives; or the first fault.
 pub(crate) fn search<S: Source>(
     alloc: Global,
-    words: &[String],
+    root: u32,
     source: &mut S,
 ) -> Result<Vec<Option<u32>>, Fault>
     ensures means { IfSome (S.left source.old) (λ bytes.
-        Finds (λ distances. distances.items) result (S.left source.new) (search_of (texts_of words.now) bytes)) }
-    ensures words { (result ≡ Err Fault.Words) ↔ (root_of (texts_of words.now) ≡ None) }
-    ensures unread { root_of (texts_of words.now) ≡ None → S.left source.new ≡ S.left source.old }
+        FindsDistances root (λ distances. distances.items) result (S.left source.new) (graph_of root bytes)) }
+    ensures words { result ≢ Err Fault.Words }
+    ensures taken { IfErr result (λ fault. IfMeant (cause_of fault) (IfSome (S.left source.old) (λ bytes.
+        LeftAfter bytes fault (S.left source.new)))) }
     ensures counts { Counts result (S.faults source.old) (S.faults source.new) }
-    ensures fits { IfOk result (λ distances. vec_len distances ≤ MAX_NODES) }
+    ensures few { IfOk result (λ distances. vec_len distances ≤ most_nodes) }
 {
-    let Some(root) = named_root(words) else {
-        return Err(Fault::Words);
-    };
     let list = load(alloc, root, source)?;
     Ok(levels(alloc, &list, root)?)
 }
@@ -38,9 +35,11 @@ pub(crate) fn search<S: Source>(
 fn load<S: Source>(alloc: Global, root: u32, source: &mut S) -> Result<EdgeList, Fault>
     ensures means { IfSome (S.left source.old) (λ bytes.
         Loads result (S.left source.new) (graph_of root bytes)) }
+    ensures words { result ≢ Err Fault.Words }
+    ensures taken { IfErr result (λ fault. IfMeant (cause_of fault) (IfSome (S.left source.old) (λ bytes.
+        LeftAfter bytes fault (S.left source.new)))) }
     ensures counts { Counts result (S.faults source.old) (S.faults source.new) }
     ensures root { IfOk result (λ graph. root < graph.nodes) }
-    ensures input { result ≢ Err Fault.Words }
 {
     let mut reader = GrReader::new(alloc)?;
     let head = reader.read_head(source)?;

@@ -195,12 +195,30 @@ fn each_fault_of_the_input_has_its_line(rt: HostRuntime) -> Result<(), Fail> {
 }
 
 #[test]
-fn words_that_name_no_search_are_refused(rt: HostRuntime) -> Result<(), Fail> {
+fn words_come_in_any_order_and_defaults_may_be_said(rt: HostRuntime) -> Result<(), Fail> {
     let alloc = rt.alloc();
-    let all: [&[&str]; 10] = [
+    let all: [&[&str]; 4] = [
+        &["--root=007", "bfs"],
+        &["bfs", "--root", "7", "--hosts", "4", "--way", "out"],
+        &["--order=0", "--root", "7", "--owner=source", "--", "bfs"],
+        &["bfs", "--threshold", "5", "--masters=edges", "--root=7"],
+    ];
+    for words in all {
+        let ring = file(alloc, &[1, 0, 8, 1, 0, 0, 0, 0, 0, 0, 0, 1], &[2], 100)?;
+        let text = "0 -\n1 -\n2 1\n3 -\n4 -\n5 -\n6 -\n7 0\n";
+        expect_run(&rt, alloc, words, ring, 0, text)?;
+    }
+    Ok(())
+}
+
+#[test]
+fn words_that_name_no_job_that_runs_are_refused(rt: HostRuntime) -> Result<(), Fail> {
+    let alloc = rt.alloc();
+    let all: [&[&str]; 18] = [
         &[],
         &["bfs"],
         &["bfs", "--root"],
+        &["bfs", "--root", "0", "--root", "1"],
         &["bfs", "--root", "+1"],
         &["bfs", "--root", "-1"],
         &["bfs", "--root", ""],
@@ -208,11 +226,34 @@ fn words_that_name_no_search_are_refused(rt: HostRuntime) -> Result<(), Fail> {
         &["bfs", "--root", "000000000000000000000"],
         &["bfs", "--root", "0", "--root"],
         &["walk", "--root", "0"],
+        &["make"],
+        &["make", "--size", "1000001"],
+        &["cc", "cc"],
+        &["sssp", "--root", "0"],
+        &["bfs", "--root", "0", "--hosts", "2"],
+        &["bfs", "--root", "0", "--trace"],
+        &["selfrun", "--size", "1"],
     ];
     for words in all {
         let diamond = file(alloc, &DIAMOND_LONGS, &DIAMOND_WORDS, 80)?;
         expect_run(&rt, alloc, words, diamond, 2, "fault: words\n")?;
     }
+    Ok(())
+}
+
+#[test]
+fn a_made_graph_is_a_file_that_is_read_again(rt: HostRuntime) -> Result<(), Fail> {
+    let alloc = rt.alloc();
+    let make = owned(alloc, &["make", "--size", "1", "--number=9"])?;
+    let mut source = MemorySource::new(Vec::new(alloc), 1, vec![in alloc; 0]?);
+    let mut sink = MemorySink::new(alloc, 1024, 1024, Vec::new(alloc))?;
+    let outcome = gluon_main(alloc, &make, &mut source, &mut sink, &mut FirstPicks);
+    assert_eq!(rt; (outcome.status, sink.held().len()), (0, 168));
+    let mut front = file(alloc, &[1, 4, 1, 16, 16], &[0; 16], 104)?;
+    front.extend_from_slice(&[1, 0, 0, 0])?;
+    assert!(rt; sink.held().starts_with(&front));
+    let made = sink.held().to_vec(alloc)?;
+    expect_run(&rt, alloc, &["bfs", "--root", "0"], made, 0, "0 0\n")?;
     Ok(())
 }
 

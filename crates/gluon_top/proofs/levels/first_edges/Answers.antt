@@ -2,7 +2,7 @@ use Rattle.std.proofs.Common.{◌≡◌, ◌+◌, ◌≤◌, length, Some, slice
 use Rattle.std.proofs.lemmas.Option.{slice_get-get_or}
 use Rattle.graph_model.specs.Graph.{IsWithin}
 use Rattle.graph_model.specs.declared.edge.Edge.{Edge}
-use Rattle.graph_model.proofs.Places.{All-at}
+use Rattle.list_laws.proofs.Places.{All-at}
 use Rattle.gluon_top.proofs.LevelsPlaces.{AreFirstSoFar, AreFirstSoFar_stay, AreFirstSoFar_fill, AreFirstEdges_end}
 use Rattle.gluon_top.proofs.levels.first_edges.Goals as goal
 use Rattle.gluon_top.proofs.levels.first_edges.Goals.{then-len-source+in_ok-resize, else-len-source}

@@ -2,7 +2,7 @@ use Rattle.std.proofs.Common.{◌≡◌, ◌<◌, length, Some, None, slice_inde
 use Rattle.std.proofs.lemmas.Option.{slice_get-get_or}
 use Rattle.std.proofs.lemmas.List.{length-set}
 use Rattle.graph_model.specs.declared.edge.Edge.{Edge}
-use Rattle.graph_model.proofs.Places.{Contains-from_slice_get}
+use Rattle.list_laws.proofs.Places.{Contains-from_slice_get}
 use Rattle.gluon_top.specs.LevelsSteps.{nothing, head}
 use Rattle.gluon_top.proofs.LevelsHeads.{HeadsAreReached_more, HeadsAreReached_set, IsReached_set, reads_none, reads_some}
 use Rattle.gluon_top.proofs.levels.reach_heads.Goals as goal

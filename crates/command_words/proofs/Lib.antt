@@ -1,0 +1,11 @@
+pub mod Rows
+pub mod Numbers
+pub mod Spellings
+pub mod Items
+pub mod Rules
+pub mod Steps
+pub mod WordWalk
+pub mod Parse
+pub mod Growing
+pub mod Reading
+pub mod Ranges

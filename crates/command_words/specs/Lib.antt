@@ -1,0 +1,5 @@
+pub mod Items
+pub mod Values
+pub mod Jobs
+pub mod Refusal
+pub mod Found

@@ -1,0 +1,69 @@
+//! What is to be done.
+ghost use Rattle.std.specs.Prelude.{◌≡◌, ◌⊎◌, None, Some, Err, IfOk, IfErr};
+ghost use Rattle.command_words.specs.Items.{texts_of};
+ghost use Rattle.gluon_top.specs.Tasks.{is_default, task_of_job, task_of};
+
+use crate::fault::Fault;
+use command_words::{Job, RunWords, WordsFault, read_words};
+use cusp_rules::MasterRule;
+use edge_owner::OwnerRule;
+use graph_model::Way;
+use std::alloc::Global;
+
+/// A job that runs today.
+#[derive(Clone, Copy, Debug, PartialEq, Eq)]
+pub enum Task {
+    /// Find the least number of arcs from this node to each.
+    Search {
+        /// The node where the search starts.
+        root: u32,
+    },
+    /// Write the file of the graph that is made of a size and a number.
+    Make {
+        /// The number of nodes, from 1 to 1,000,000.
+        size: u32,
+        /// The number that draws the edges.
+        number: u64,
+    },
+}
+
+/// The task that the words ask for. Words that ask for a job that does not run yet are refused.
+pub(crate) fn read_task(alloc: Global, words: &[String]) -> Result<Task, Fault>
+    ensures task { IfOk result (λ task. task_of (texts_of words.now) ≡ Some task) }
+    ensures refused { result ≡ Err Fault.Words → task_of (texts_of words.now) ≡ None }
+    ensures faults { IfErr result (λ fault. (fault ≡ Fault.Words) ⊎ (fault ≡ Fault.Memory)) }
+{
+    match read_words(alloc, words) {
+        Ok(job) => match task_now(job) {
+            Some(task) => Ok(task),
+            None => Err(Fault::Words),
+        },
+        Err(WordsFault::Refused) => Err(Fault::Words),
+        Err(WordsFault::Memory) => Err(Fault::Memory),
+    }
+}
+
+/// The task of a job, where it runs today.
+fn task_now(job: Job) -> Option<Task>
+    ensures { result ≡ task_of_job job }
+{
+    match job {
+        Job::Bfs { root, run } if is_default(&run) => Some(Task::Search { root }),
+        Job::Make { size, number } => Some(Task::Make { size, number }),
+        _ => None,
+    }
+}
+
+/// Whether a run asks for no more than the defaults.
+fn is_default(run: &RunWords) -> bool
+    ensures { result ≡ is_default run.now }
+{
+    run.hosts == 4
+        && matches!(run.rules.masters, MasterRule::Edges)
+        && matches!(run.rules.owner, OwnerRule::Source)
+        && matches!(run.way, Way::Outward)
+        && run.rounds.is_none()
+        && run.order == 0
+        && !run.report
+        && !run.trace
+}
