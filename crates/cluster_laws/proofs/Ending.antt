@@ -7,9 +7,9 @@ use Rattle.std.proofs.lemmas.List.Sums.{length-filter}
 use Rattle.std.proofs.lemmas.List.FromFn.{length-range_with_len}
 use Rattle.std.proofs.lemmas.List.Elements.{All-append, All-map, All-weaker, filter_passes}
 use Rattle.round_packets.specs.Runs.{Run, IsRun}
-use Rattle.round_packets.specs.Division.{Division, hosts_of}
-use Rattle.round_packets.specs.Lists.{is_readable, is_writable, is_mirror, reduce_list, broadcast_list}
-use Rattle.round_packets.proofs.Listed.{picked}
+use Rattle.graph_division.specs.Division.{Division, hosts_of}
+use Rattle.graph_division.specs.Lists.{is_readable, is_writable, is_mirror, reduce_list, broadcast_list}
+use Rattle.graph_division.proofs.Listed.{picked}
 use Rattle.host_laws.specs.HostView.{HostView}
 use Rattle.host_laws.specs.Standing.{StandsFor, IsDone, IsFresh}
 use Rattle.host_laws.proofs.Closing.{all_false, closed_stands}

@@ -4,8 +4,8 @@ use Rattle.std.specs.List.{list_any, range_with_len}
 use Rattle.std.proofs.lemmas.Bool.{cases_Bool, both_ways, and_parts, and_from, or_left, or_right, or_from, eq-eqb, ltb-true, lt-ltb}
 use Rattle.std.proofs.lemmas.Bool.Decides.{eqb_tells}
 use Rattle.round_packets.specs.Runs.{Run, IsRun}
-use Rattle.round_packets.specs.Lists.{is_writable, reduce_list}
-use Rattle.round_packets.proofs.Carried.{written_is_reduced}
+use Rattle.graph_division.specs.Lists.{is_writable, reduce_list}
+use Rattle.graph_division.proofs.PrunedLists.{written_is_reduced}
 use Rattle.host_laws.specs.HostView.{HostView}
 use Rattle.host_laws.specs.Standing.{HasAllReduced, NoneIsWritten}
 use Rattle.cluster_laws.specs.Channels.{Leg, Channel, is_needed, is_channel, list_of, payload}

@@ -4,7 +4,7 @@ use Rattle.std.specs.List.{All, AllPairs, filter, flat_map, range_with_len, coun
 use Rattle.std.proofs.lemmas.Bool.{both_ways, and_from, or_left, or_right, eq-eqb, lt-ltb, cases_lt}
 use Rattle.std.proofs.lemmas.List.Elements.{All-nil, All-cons, All-head, All-tail, All-append, All-map, All-weaker, All-filter, All-get_or, filter_passes}
 use Rattle.std.proofs.lemmas.List.Kept.{AllPairs-cons}
-use Rattle.round_packets.specs.Division.{Division, hosts_of}
+use Rattle.graph_division.specs.Division.{Division, hosts_of}
 use Rattle.cluster_laws.specs.Channels.{Leg, Channel, same_leg, same_channel, is_channel, pairs, channels}
 use Rattle.cluster_laws.specs.Channels.Leg.{reduce, broadcast}
 use Rattle.cluster_laws.specs.Tally.{packets_of}

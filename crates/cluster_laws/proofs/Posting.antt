@@ -6,7 +6,7 @@ use Rattle.std.proofs.lemmas.Option.{slice_get-get_or}
 use Rattle.std.proofs.lemmas.List.Elements.{All-nil, All-cons, All-head, All-tail, All-same, filter_passes}
 use Rattle.field_encodings.specs.Lists.{values_at}
 use Rattle.round_packets.specs.Runs.{shows, contribution}
-use Rattle.round_packets.specs.Lists.{is_readable, is_writable, is_mirror, reduce_list, broadcast_list}
+use Rattle.graph_division.specs.Lists.{is_readable, is_writable, is_mirror, reduce_list, broadcast_list}
 use Rattle.round_packets.specs.RunPackets.{kept, gathered}
 use Rattle.host_laws.specs.Standing.{was_told}
 use Rattle.cluster_laws.specs.Posting.{ReducesArePosted, BroadcastsArePosted}

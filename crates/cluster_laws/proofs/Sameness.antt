@@ -2,7 +2,7 @@
 use Rattle.std.proofs.Common.{◌≡◌, ◌≢◌, ℕ, ◌+◌, ◌<◌, true, false, Bool, cond, ◌&&◌, ◌==◌, nat_lt, ◌++◌, map, refl, sym, ◌∙◌, ap, inl, inr, arith}
 use Rattle.std.specs.List.{count_by}
 use Rattle.std.proofs.lemmas.Bool.{cases_Bool, both_ways, and_parts, and_from, eq-eqb, eqb-true, ltb-true}
-use Rattle.round_packets.specs.Division.{Division, hosts_of}
+use Rattle.graph_division.specs.Division.{Division, hosts_of}
 use Rattle.cluster_laws.specs.Channels.{Leg, Channel, same_leg, same_channel, is_channel, pairs, channels}
 use Rattle.cluster_laws.specs.Channels.Leg.{reduce, broadcast}
 use Rattle.cluster_laws.specs.Events.{Event, same_event, host_of, posts_leg, round_events}

@@ -7,7 +7,7 @@ use Rattle.std.proofs.lemmas.List.FromFn.{fill_by_all}
 use Rattle.std.proofs.lemmas.List.Sums.{sum_by-cons}
 use Rattle.std.proofs.lemmas.List.Elements.{All-head, All-tail, filter-append}
 use Rattle.round_packets.specs.Runs.{Run}
-use Rattle.round_packets.specs.Division.{Division, hosts_of}
+use Rattle.graph_division.specs.Division.{Division, hosts_of}
 use Rattle.host_laws.specs.HostView.{HostView}
 use Rattle.cluster_laws.specs.Channels.{is_channel, channels, payload}
 use Rattle.cluster_laws.specs.Channels.Leg.{reduce}

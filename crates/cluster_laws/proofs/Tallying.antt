@@ -5,7 +5,7 @@ use Rattle.std.proofs.lemmas.Bool.{or_left, lt-ltb}
 use Rattle.std.proofs.lemmas.List.Elements.{All-head, All-tail, All-weaker}
 use Rattle.std.proofs.lemmas.List.Sums.{sum_by-cons}
 use Rattle.round_packets.specs.Runs.{Run, IsRun, shows}
-use Rattle.round_packets.specs.Division.{hosts_of}
+use Rattle.graph_division.specs.Division.{hosts_of}
 use Rattle.host_laws.specs.HostView.{HostView}
 use Rattle.host_laws.specs.Standing.{StandsFor}
 use Rattle.cluster_laws.specs.Cluster.{ClusterView, ClusterStands, IsOver}

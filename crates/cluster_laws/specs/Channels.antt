@@ -2,8 +2,8 @@
 use Rattle.std.specs.Prelude.{ℕ, ◌==◌, Bool, true, false, ◌&&◌, nat_lt, List, ◌++◌, map}
 use Rattle.std.specs.List.{filter, flat_map, list_any}
 use Rattle.round_packets.specs.Runs.{Run}
-use Rattle.round_packets.specs.Division.{Division, hosts_of}
-use Rattle.round_packets.specs.Lists.{reduce_list, broadcast_list}
+use Rattle.graph_division.specs.Division.{Division, hosts_of}
+use Rattle.graph_division.specs.Lists.{reduce_list, broadcast_list}
 use Rattle.round_packets.specs.Packets.{bytes_of_packet}
 use Rattle.round_packets.specs.RunPackets.{reduce_packet, broadcast_packet}
 

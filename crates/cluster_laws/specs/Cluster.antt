@@ -3,8 +3,8 @@
 use Rattle.std.specs.Prelude.{◌≡◌, ◌<◌, ℕ, Bool, true, false, not, ◌||◌, ◌&&◌, nat_lt, List}
 use Rattle.std.specs.List.{filter, list_any, count_by, slice_index_or}
 use Rattle.round_packets.specs.Runs.{Run}
-use Rattle.round_packets.specs.Division.{Division, hosts_of}
-use Rattle.round_packets.specs.Lists.{reduce_list}
+use Rattle.graph_division.specs.Division.{Division, hosts_of}
+use Rattle.graph_division.specs.Lists.{reduce_list}
 use Rattle.host_laws.specs.HostView.{HostView}
 use Rattle.host_laws.specs.Standing.{StandsFor}
 use Rattle.cluster_laws.specs.Channels.{Leg, Channel, is_needed, is_channel, payload}

@@ -1,6 +1,6 @@
 -- The events of a round.
 use Rattle.std.specs.Prelude.{ℕ, ◌==◌, Bool, false, List, ◌++◌, map}
-use Rattle.round_packets.specs.Division.{Division, hosts_of}
+use Rattle.graph_division.specs.Division.{Division, hosts_of}
 use Rattle.cluster_laws.specs.Channels.{Leg, Channel, same_channel, channels}
 use Rattle.cluster_laws.specs.Channels.Leg.{reduce, broadcast}
 

@@ -3,7 +3,7 @@
 use Rattle.std.specs.Prelude.{◌≡◌, ◌↔◌, ◌⊎◌, ◌<◌, ◌+◌, ◌*◌, ℕ, suc, true, false, List, length}
 use Rattle.std.specs.List.{sum_by}
 use Rattle.round_packets.specs.Runs.{Run, IsRun}
-use Rattle.round_packets.specs.Division.{hosts_of}
+use Rattle.graph_division.specs.Division.{hosts_of}
 use Rattle.host_laws.specs.Standing.{IsFresh, IsDone, NoneIsWritten}
 use Rattle.cluster_laws.specs.Channels.{Channel, is_channel, channels, payload}
 use Rattle.cluster_laws.specs.Channels.Leg.{reduce, broadcast}

@@ -1,7 +1,7 @@
 -- Channels and their numbers say the same, and so do clusters and their lists.
 use Rattle.std.specs.Prelude.{◌≡◌, ◌<◌, ◌≤◌, ◌+◌, ◌-◌, ◌==◌, ◌&&◌, ℕ, true, false, List, length}
 use Rattle.std.specs.List.{AllPairs, slice_index_or, sum_by}
-use Rattle.round_packets.specs.Division.{Division}
+use Rattle.graph_division.specs.Division.{Division}
 use Rattle.round_packets.specs.Runs.{Run}
 use Rattle.host_laws.specs.HostView.{HostView}
 use Rattle.cluster_laws.specs.Channels.{Channel, same_leg, is_channel, channels}

@@ -2,7 +2,7 @@
 use Rattle.std.specs.Prelude.{◌≡◌, ◌<◌, ◌==◌, ℕ, Bool, true, false, not, ◌||◌, ◌&&◌, nat_lt, if◌then◌else◌, List, [], ◌++◌, map, length, slice_set}
 use Rattle.std.specs.List.{filter, range_with_len, position_or_len, slice_index_or}
 use Rattle.round_packets.specs.Runs.{Run}
-use Rattle.round_packets.specs.Division.{Division, hosts_of}
+use Rattle.graph_division.specs.Division.{Division, hosts_of}
 use Rattle.host_laws.specs.HostView.{HostView}
 use Rattle.cluster_laws.specs.Channels.{Leg, Channel, same_leg, same_channel, channels, payload}
 use Rattle.cluster_laws.specs.Channels.Leg.{reduce, broadcast}

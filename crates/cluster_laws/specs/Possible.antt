@@ -1,6 +1,6 @@
 -- Events that may come can come, and every round can be brought to its end.
 use Rattle.std.specs.Prelude.{◌≡◌, ◌<◌, ◌≤◌, ℕ, true, List, length}
-use Rattle.round_packets.specs.Division.{Division}
+use Rattle.graph_division.specs.Division.{Division}
 use Rattle.round_packets.specs.Runs.{Run, IsRun}
 use Rattle.host_laws.specs.HostView.{HostView}
 use Rattle.cluster_laws.specs.Events.{Event}

@@ -4,7 +4,7 @@ use Rattle.std.specs.Prelude.{◌≡◌, ◌<◌, ◌≤◌, ℕ, Bool, true, fa
 use Rattle.std.specs.List.{All, slice_index_or}
 use Rattle.field_encodings.specs.Lists.{marks_at, values_at}
 use Rattle.round_packets.specs.Runs.{Run, IsRun, contribution}
-use Rattle.round_packets.specs.Lists.{is_writable, reduce_list, broadcast_list}
+use Rattle.graph_division.specs.Lists.{is_writable, reduce_list, broadcast_list}
 use Rattle.round_packets.specs.Packets.{Packet, marks_of}
 use Rattle.round_packets.specs.RunPackets.{reduce_packet, broadcast_packet}
 use Rattle.host_laws.specs.HostView.{HostView}

@@ -1,6 +1,6 @@
 -- What each event does to a cluster.
 use Rattle.std.specs.Prelude.{◌≡◌, ◌≢◌, ◌<◌, ℕ, zero, suc, Bool, true, not, ◌&&◌, ◌||◌, if◌then◌else◌, List}
-use Rattle.round_packets.specs.Division.{Division}
+use Rattle.graph_division.specs.Division.{Division}
 use Rattle.round_packets.specs.Runs.{Run}
 use Rattle.host_laws.specs.HostView.{HostView}
 use Rattle.host_laws.specs.Effects.{Computes, after_compute, TakesReduce, after_reduce, Spreads, after_spread, TakesBroadcast, after_broadcast, closed}

@@ -1,7 +1,7 @@
 -- What a round comes to: packets, their bytes, and vertices that show something new.
 use Rattle.std.specs.Prelude.{ℕ, suc, Bool, not, List, length, take}
 use Rattle.std.specs.List.{range_with_len, sum_by, count_by}
-use Rattle.round_packets.specs.Division.{Division}
+use Rattle.graph_division.specs.Division.{Division}
 use Rattle.round_packets.specs.Runs.{Run, shows}
 use Rattle.host_laws.specs.HostView.{HostView}
 use Rattle.cluster_laws.specs.Channels.{channels, payload}

@@ -6,17 +6,16 @@ ghost use Rattle.reduce_laws.specs.NumberWords.{nat_eq_is_same};
 use crate::{
     end_laws, number_laws, one_round, packets_are_posted, rounds_end, step_laws, table_laws,
 };
+use graph_division::{graphs_have_arcs, lists_rise, written_is_reduced};
 use host_laws::{
     close_stands, compute_stands, fresh_stands, spread_stands, take_broadcast_stands,
     take_reduce_stands,
 };
-use lone_rounds::{
-    arc_order_is_free, graphs_have_arcs, only_reached_change, quiet_stays, shares_bring,
-};
+use lone_rounds::{arc_order_is_free, only_reached_change, quiet_stays, shares_bring};
 use reduce_laws::{MinU32, VertexProgram};
 use round_packets::{
-    agreeing_have_same_bytes, entries_are_carried, given_settles, kept_is_no_news, lists_rise,
-    packets_are_forms, untold_is_unchanged, written_is_reduced,
+    agreeing_have_same_bytes, entries_are_carried, given_settles, kept_is_no_news,
+    packets_are_forms, untold_is_unchanged,
 };
 
 // The least number of a vertex from which arcs lead here.
@@ -87,7 +86,13 @@ fn laws_of_rounds_return() {
     only_reached_change::<LeastLabel>();
     arc_order_is_free::<LeastLabel>();
     shares_bring::<LeastLabel>();
+}
+
+#[test]
+fn laws_of_divisions_return() {
     graphs_have_arcs();
+    lists_rise();
+    written_is_reduced();
 }
 
 #[test]
@@ -96,9 +101,7 @@ fn laws_of_packets_return() {
     given_settles::<LeastLabel>();
     entries_are_carried::<u32>();
     agreeing_have_same_bytes::<u8>();
-    written_is_reduced();
     untold_is_unchanged::<LeastLabel>();
-    lists_rise();
     packets_are_forms::<LeastLabel>();
 }
 

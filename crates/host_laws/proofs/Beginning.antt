@@ -4,8 +4,8 @@ use Rattle.std.specs.List.{filter}
 use Rattle.std.proofs.lemmas.Bool.{both_ways}
 use Rattle.reduce_laws.specs.ReductionLaws.{combined}
 use Rattle.round_packets.specs.Runs.{Run, IsRun, state_of, shows, contribution}
-use Rattle.round_packets.specs.Division.{hosts_of}
-use Rattle.round_packets.specs.Lists.{is_readable}
+use Rattle.graph_division.specs.Division.{hosts_of}
+use Rattle.graph_division.specs.Lists.{is_readable}
 use Rattle.round_packets.specs.Packets.{carries}
 use Rattle.round_packets.specs.RunPackets.{reduce_packet, kept, gathered}
 use Rattle.round_packets.proofs.Shares.{shows_value}

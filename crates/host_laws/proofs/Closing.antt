@@ -6,8 +6,8 @@ use Rattle.std.proofs.lemmas.Bool.Decides.{nat_tests}
 use Rattle.std.proofs.lemmas.List.{length-replicate}
 use Rattle.reduce_laws.specs.ReductionLaws.{combined}
 use Rattle.round_packets.specs.Runs.{Run, IsRun, state_of, shows}
-use Rattle.round_packets.specs.Division.{hosts_of}
-use Rattle.round_packets.specs.Lists.{is_readable}
+use Rattle.graph_division.specs.Division.{hosts_of}
+use Rattle.graph_division.specs.Lists.{is_readable}
 use Rattle.round_packets.specs.Packets.{carries}
 use Rattle.round_packets.specs.RunPackets.{reduce_packet, kept, gathered}
 use Rattle.round_packets.proofs.Shares.{shows_value}

@@ -5,8 +5,8 @@ use Rattle.std.proofs.lemmas.Bool.{cases_Bool, both_ways}
 use Rattle.reduce_laws.specs.ReductionLaws.{combined}
 use Rattle.reduce_laws.proofs.Combining.{each, combined_is_value}
 use Rattle.round_packets.specs.Runs.{Run, IsRun, contribution}
-use Rattle.round_packets.specs.Division.{hosts_of}
-use Rattle.round_packets.specs.Lists.{is_readable, is_writable}
+use Rattle.graph_division.specs.Division.{hosts_of}
+use Rattle.graph_division.specs.Lists.{is_readable, is_writable}
 use Rattle.round_packets.specs.Packets.{carries}
 use Rattle.round_packets.specs.RunPackets.{reduce_packet, kept, gathered}
 use Rattle.round_packets.proofs.Shares.{contribution_is_value}

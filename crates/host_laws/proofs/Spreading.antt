@@ -5,8 +5,8 @@ use Rattle.std.proofs.lemmas.Bool.{and_parts, eqb-true, cases_lt}
 use Rattle.std.proofs.lemmas.Bool.Decides.{nat_tests}
 use Rattle.reduce_laws.specs.ReductionLaws.{combined}
 use Rattle.round_packets.specs.Runs.{Run, IsRun, state_of, shows, contribution}
-use Rattle.round_packets.specs.Division.{hosts_of}
-use Rattle.round_packets.specs.Lists.{reduce_list}
+use Rattle.graph_division.specs.Division.{hosts_of}
+use Rattle.graph_division.specs.Lists.{reduce_list}
 use Rattle.round_packets.specs.Packets.{carries}
 use Rattle.round_packets.specs.RunPackets.{reduce_packet, gathered, given}
 use Rattle.round_packets.proofs.Given.{settles_as_whole}

@@ -8,7 +8,7 @@ use Rattle.reduce_laws.specs.ReductionLaws.{combined}
 use Rattle.reduce_laws.proofs.Combining.{each, value_or_identity, combined-filter, combined_same, combined_is_value, combine_identity}
 use Rattle.round_packets.proofs.Turns.{at_turn, takes_turn}
 use Rattle.round_packets.specs.Runs.{Run, IsRun, contribution}
-use Rattle.round_packets.specs.Division.{hosts_of}
+use Rattle.graph_division.specs.Division.{hosts_of}
 use Rattle.round_packets.specs.Packets.{carries, carried_value}
 use Rattle.round_packets.specs.RunPackets.{reduce_packet, gathered}
 use Rattle.round_packets.proofs.Shares.{contribution_is_value}

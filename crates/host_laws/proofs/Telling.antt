@@ -6,10 +6,10 @@ use Rattle.std.proofs.lemmas.Bool.{cases_Bool, both_ways, cases_lt, eq-eqb, ne_e
 use Rattle.std.proofs.lemmas.Bool.Decides.{nat_tests, eqb_tells}
 use Rattle.std.proofs.lemmas.List.{length-set, get_or-set_same, get_or-set_other}
 use Rattle.round_packets.specs.Runs.{Run, IsRun, shows}
-use Rattle.round_packets.specs.Lists.{is_readable, is_writable, is_mirror, broadcast_list}
+use Rattle.graph_division.specs.Lists.{is_readable, is_writable, is_mirror, broadcast_list}
 use Rattle.round_packets.specs.Packets.{tag_of, carries}
 use Rattle.round_packets.specs.RunPackets.{broadcast_packet, kept, gathered}
-use Rattle.round_packets.proofs.Listed.{picked}
+use Rattle.graph_division.proofs.Listed.{picked}
 use Rattle.round_packets.proofs.Shares.{shows_value}
 use Rattle.round_packets.proofs.Kept.{kept_told, kept_untold, unread_is_untold}
 use Rattle.round_packets.proofs.Carried.{untold_is_unchanged}

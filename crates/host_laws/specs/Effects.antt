@@ -3,7 +3,7 @@ use Rattle.std.specs.Prelude.{◌≡◌, ◌<◌, ◌≤◌, ◌&&◌, ℕ, Bool
 use Rattle.std.specs.List.{slice_index_or}
 use Rattle.std.specs.Option.{unwrap_or}
 use Rattle.reduce_laws.specs.ReductionLaws.{Reducer}
-use Rattle.round_packets.specs.Lists.{is_writable}
+use Rattle.graph_division.specs.Lists.{is_writable}
 use Rattle.round_packets.specs.Runs.{Run, contribution}
 use Rattle.round_packets.specs.Packets.{carries, carried_value}
 use Rattle.round_packets.specs.RunPackets.{reduce_packet, broadcast_packet}

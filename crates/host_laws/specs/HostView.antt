@@ -2,7 +2,7 @@
 -- first; what was taken goes by the number of the host that sent it.
 use Rattle.std.specs.Prelude.{◌≡◌, ◌<◌, ◌≤◌, ◌==◌, ℕ, Bool, nat_lt, List, length, slice_index, take}
 use Rattle.std.specs.List.{filter, range_with_len}
-use Rattle.round_packets.specs.Division.{Division}
+use Rattle.graph_division.specs.Division.{Division}
 
 -- a host's fields
 pub record HostView (Program Item State Shown : Type 0) : Type 0 where

@@ -3,8 +3,8 @@ use Rattle.std.specs.Prelude.{◌≡◌, ◌<◌, ◌≤◌, ◌==◌, ◌&&◌,
 use Rattle.std.specs.List.{filter, slice_index_or}
 use Rattle.list_laws.specs.Among.{is_among}
 use Rattle.reduce_laws.specs.ReductionLaws.{combined}
-use Rattle.round_packets.specs.Division.{Division, hosts_of}
-use Rattle.round_packets.specs.Lists.{is_readable, is_writable, reduce_list, broadcast_list}
+use Rattle.graph_division.specs.Division.{Division, hosts_of}
+use Rattle.graph_division.specs.Lists.{is_readable, is_writable, reduce_list, broadcast_list}
 use Rattle.round_packets.specs.Runs.{Run, moment_of, state_of, shows, contribution}
 use Rattle.round_packets.specs.Packets.{carries}
 use Rattle.round_packets.specs.RunPackets.{reduce_packet, kept, gathered}

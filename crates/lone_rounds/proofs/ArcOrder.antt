@@ -10,7 +10,7 @@ use Rattle.reduce_laws.specs.ProgramLaws.{Steps, ProgramLaws}
 use Rattle.reduce_laws.proofs.Combining.{combined-filter, value_or_identity, combined_same}
 use Rattle.reduce_laws.proofs.Reordering.{combined_permuted}
 use Rattle.lone_rounds.specs.Moments.{Moment, carried_along, brought, settled, moment_after}
-use Rattle.lone_rounds.specs.ProgramArcs.{IsArcOf, AreArcsOf}
+use Rattle.graph_division.specs.ProgramArcs.{IsArcOf, AreArcsOf}
 use Rattle.lone_rounds.specs.Laws.{ArcOrderIsFree}
 use Rattle.lone_rounds.proofs.Rounds.{HasStates, states_after}
 

@@ -7,7 +7,7 @@ use Rattle.reduce_laws.specs.ReductionLaws.{Reducer, ReductionLaws, combined}
 use Rattle.reduce_laws.specs.ProgramLaws.{Steps, ProgramLaws}
 use Rattle.lone_rounds.specs.Moments.{Moment, carried_along, live_arcs, brought, moment_after, state_after, shown_after}
 use Rattle.reduce_laws.proofs.Combining.{combined_is_value, combined-append, All-flat_map}
-use Rattle.lone_rounds.specs.ProgramArcs.{IsArcOf, AreArcsOf}
+use Rattle.graph_division.specs.ProgramArcs.{IsArcOf, AreArcsOf}
 use Rattle.lone_rounds.specs.Laws.{IsQuietRound, QuietStays, OnlyReachedChange, SharesBring}
 
 -- nothing passes a test that all fail

@@ -2,13 +2,11 @@
 use Rattle.std.specs.Prelude.{◌≡◌, ◌<◌, ◌≤◌, ℕ, suc, List, [], All}
 use Rattle.std.specs.List.{flat_map}
 use Rattle.std.specs.List.Sorted.{IsPermutation}
-use Rattle.graph_model.specs.Arcs.{Arc, arcs_of}
-use Rattle.graph_model.specs.Graph.{Graph, IsGraph}
-use Rattle.graph_model.specs.declared.edge.Way.{Way}
+use Rattle.graph_model.specs.Arcs.{Arc}
 use Rattle.reduce_laws.specs.ReductionLaws.{Reducer, combined}
 use Rattle.reduce_laws.specs.ProgramLaws.{Steps}
 use Rattle.lone_rounds.specs.Moments.{live_arcs, brought, moment_after, state_after, shown_after}
-use Rattle.lone_rounds.specs.ProgramArcs.{IsArcOf, AreArcsOf}
+use Rattle.graph_division.specs.ProgramArcs.{IsArcOf, AreArcsOf}
 
 -- the round after so many changes no shown value
 abbrev pub IsQuietRound : {Item State Shown : Type 0} → Reducer Item → Steps Item State Shown → (nodes : ℕ) → List Arc → (rounds : ℕ) → Type 0
@@ -42,7 +40,3 @@ SharesBring reducer steps =
     → AreArcsOf nodes arcs → All (λ host. All (IsArcOf nodes) (share host)) hosts
     → brought reducer steps (flat_map share hosts) (moment_after reducer steps arcs rounds) v
     ≡ combined reducer (λ host. brought reducer steps (share host) (moment_after reducer steps arcs rounds) v) hosts
-
--- the arcs of a graph are such arcs, whichever way they are followed
-abbrev pub GraphsHaveArcs : Type 0
-GraphsHaveArcs = (graph : Graph) (way : Way) → IsGraph graph → AreArcsOf graph.nodes (arcs_of way graph.edges)

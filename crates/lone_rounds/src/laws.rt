@@ -1,5 +1,5 @@
 //! Laws of the rounds of a program. Each function does nothing: its contract is the law.
-ghost use Rattle.lone_rounds.specs.Laws.{QuietStays, OnlyReachedChange, ArcOrderIsFree, SharesBring, GraphsHaveArcs};
+ghost use Rattle.lone_rounds.specs.Laws.{QuietStays, OnlyReachedChange, ArcOrderIsFree, SharesBring};
 
 use reduce_laws::VertexProgram;
 
@@ -21,9 +21,4 @@ pub fn arc_order_is_free<P: VertexProgram>()
 /// What arcs bring to a vertex may be combined host by host.
 pub fn shares_bring<P: VertexProgram>()
     ensures { (program : P) → SharesBring P.Red.reducer (P.steps program) }
-{}
-
-/// Every graph has arcs on which programs may run, whichever way they are followed.
-pub fn graphs_have_arcs()
-    ensures { GraphsHaveArcs }
 {}

@@ -4,6 +4,4 @@
 
 mod laws;
 
-pub use laws::{
-    arc_order_is_free, graphs_have_arcs, only_reached_change, quiet_stays, shares_bring,
-};
+pub use laws::{arc_order_is_free, only_reached_change, quiet_stays, shares_bring};

@@ -7,7 +7,7 @@ use Rattle.lone_rounds.specs.Moments.{brought}
 use Rattle.reduce_laws.proofs.Combining.{each, combined_identities}
 use Rattle.round_packets.proofs.Turns.{combined_has, range_is_value}
 use Rattle.lone_rounds.proofs.Rounds.{brought_is_value}
-use Rattle.round_packets.specs.Division.{hosts_of, whole}
+use Rattle.graph_division.specs.Division.{hosts_of, whole}
 use Rattle.round_packets.specs.Runs.{Run, IsRun, moment_of, state_of, shows, contribution}
 use Rattle.round_packets.specs.Packets.{carries}
 use Rattle.round_packets.specs.RunPackets.{broadcast_packet, kept, gathered}

@@ -6,11 +6,11 @@ use Rattle.std.proofs.lemmas.Bool.Decides.{eqb_tells}
 use Rattle.list_laws.specs.Members.{members_from}
 use Rattle.field_encodings.specs.Forms.{entries}
 use Rattle.round_packets.specs.Runs.{shows}
-use Rattle.round_packets.specs.Lists.{is_readable, is_writable, is_mirror}
+use Rattle.graph_division.specs.Lists.{is_readable, is_writable, is_mirror}
 use Rattle.round_packets.specs.Packets.{tag_of, value_for}
 use Rattle.round_packets.specs.RunPackets.{broadcast_packet}
-use Rattle.round_packets.specs.Laws.{EntriesAreCarried, WrittenIsReduced, UntoldIsUnchanged}
-use Rattle.round_packets.proofs.Listed.{picked, second_fails, denied}
+use Rattle.round_packets.specs.Laws.{EntriesAreCarried, UntoldIsUnchanged}
+use Rattle.graph_division.proofs.Listed.{picked, second_fails, denied}
 use Rattle.round_packets.proofs.Shares.{shows_value}
 
 -- the ids from a place on are these
@@ -98,16 +98,6 @@ module _ {X : Type 0} (updated : ℕ → Bool) (value : ℕ → X) (v : ℕ) whe
 pub entries_are_carried : (X : Type 0) → EntriesAreCarried X
 unfolding wanted
 entries_are_carried X size v packet = of_tag packet.updated packet.value v packet.ids (tag_of size packet)
-
-pub written_is_reduced : WrittenIsReduced
-written_is_reduced division host other v below told written =
-    let in_broadcast = sym (picked (λ u. division.master u == other && (is_mirror division host u && is_readable division host u)) 0 division.nodes v (omega arith) (omega arith)) ∙ told in
-    let parts = and_parts (division.master v == other) (is_mirror division host v && is_readable division host v) in_broadcast in
-    let mirrors = (and_parts (is_mirror division host v) (is_readable division host v) parts.1).0 in
-    picked (λ u. division.master u == other && (is_mirror division host u && is_writable division host u)) 0 division.nodes v (omega arith) (omega arith)
-    ∙ ap (λ b. b && (is_mirror division host v && is_writable division host v)) parts.0
-    ∙ ap (λ b. b && is_writable division host v) mirrors
-    ∙ written
 
 pub untold_is_unchanged : {Item State Shown : Type 0} (IsItem : Item → Type 0) (IsShown : Shown → Type 0) (IsState : State → Type 0) → UntoldIsUnchanged IsItem IsShown IsState
 untold_is_unchanged IsItem IsShown IsState run rounds from to v fact below told untold =

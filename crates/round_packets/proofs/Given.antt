@@ -7,13 +7,13 @@ use Rattle.reduce_laws.specs.ReductionLaws.{combined}
 use Rattle.lone_rounds.specs.Moments.{brought, carried_along}
 use Rattle.reduce_laws.proofs.Combining.{each, combine_identity, combined_both, combined_same, combined-filter}
 use Rattle.round_packets.proofs.Turns.{range_is_value, at_turn, at_turn_is_value, takes_turn}
-use Rattle.round_packets.specs.Division.{hosts_of}
+use Rattle.graph_division.specs.Division.{hosts_of}
 use Rattle.round_packets.specs.Runs.{Run, IsRun, moment_of, state_of, contribution}
-use Rattle.round_packets.specs.Lists.{is_readable, is_writable, is_mirror, reduce_list}
+use Rattle.graph_division.specs.Lists.{is_readable, is_writable, is_mirror, reduce_list}
 use Rattle.round_packets.specs.Packets.{tag_of, carries}
 use Rattle.round_packets.specs.RunPackets.{reduce_packet, kept, gathered, given}
 use Rattle.round_packets.specs.Laws.{GivenSettles}
-use Rattle.round_packets.proofs.Listed.{picked, neither, not_written, second_fails, denied}
+use Rattle.graph_division.proofs.Listed.{picked, neither, not_written, second_fails, denied}
 use Rattle.round_packets.proofs.Shares.{contribution_is_value, settles_by_hosts}
 use Rattle.round_packets.proofs.Absorbing.{kept_is_value, gathered_is_value, kept_is_identity, kept_by_all}
 

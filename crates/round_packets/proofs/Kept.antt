@@ -1,10 +1,10 @@
 -- What a mirror keeps after a round, case by case.
 use Rattle.std.proofs.Common.{◌≡◌, ℕ, suc, ◌<◌, true, false, Bool, cond, not, ◌&&◌, ◌||◌, ◌==◌, refl, ◌∙◌, ap, arith}
 use Rattle.round_packets.specs.Runs.{Run, shows}
-use Rattle.round_packets.specs.Lists.{is_readable, is_mirror}
+use Rattle.graph_division.specs.Lists.{is_readable, is_mirror}
 use Rattle.round_packets.specs.Packets.{tag_of, carries}
 use Rattle.round_packets.specs.RunPackets.{broadcast_packet, kept, gathered}
-use Rattle.round_packets.proofs.Listed.{picked}
+use Rattle.graph_division.proofs.Listed.{picked}
 
 module _ {Item State Shown : Type 0} (run : Run Item State Shown) where
   -- told: what the news says

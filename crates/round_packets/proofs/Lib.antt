@@ -1,5 +1,4 @@
 pub mod Turns
-pub mod Listed
 pub mod Shares
 pub mod Absorbing
 pub mod Given

@@ -4,9 +4,9 @@ use Rattle.std.specs.List.{All, flat_map}
 use Rattle.std.proofs.lemmas.List.Elements.{All-nil, All-append}
 use Rattle.reduce_laws.specs.ReductionLaws.{combined}
 use Rattle.lone_rounds.specs.Moments.{brought}
-use Rattle.lone_rounds.specs.ProgramArcs.{IsArcOf, AreArcsOf}
+use Rattle.graph_division.specs.ProgramArcs.{IsArcOf, AreArcsOf}
 use Rattle.lone_rounds.proofs.Rounds.{HasStates, brought_is_value, states_after, brought-append}
-use Rattle.round_packets.specs.Division.{hosts_of, whole}
+use Rattle.graph_division.specs.Division.{hosts_of, whole}
 use Rattle.round_packets.specs.Runs.{Run, IsRun, moment_of, state_of, shows, contribution}
 
 -- what holds of the elements of each part holds of those of all parts

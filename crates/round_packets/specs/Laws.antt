@@ -1,10 +1,8 @@
 -- The laws on which synchronisation rests.
 use Rattle.std.specs.Prelude.{◌≡◌, ◌<◌, ℕ, suc, true, false, List, map, All}
-use Rattle.std.specs.List.Sorted.{IsStrictlyIncreasing}
 use Rattle.list_laws.specs.Among.{is_among}
 use Rattle.field_encodings.specs.Forms.{entries}
-use Rattle.round_packets.specs.Division.{Division}
-use Rattle.round_packets.specs.Lists.{is_writable, reduce_list, broadcast_list}
+use Rattle.graph_division.specs.Lists.{broadcast_list}
 use Rattle.round_packets.specs.Runs.{Run, IsRun, state_of, shows}
 use Rattle.round_packets.specs.Packets.{Packet, Agree, IsFormOf, tag_of, marks_of, bytes_of_packet, carries, carried_value, value_for}
 use Rattle.round_packets.specs.RunPackets.{reduce_packet, broadcast_packet, kept, given}
@@ -34,13 +32,6 @@ AgreeingHaveSameBytes X =
     (size : ℕ) (bytes_of : X → List ℕ) (packet other : Packet X) → Agree packet other
     → bytes_of_packet size bytes_of packet ≡ bytes_of_packet size bytes_of other
 
--- a mirror that is listed for broadcasts and is written is listed for reduces too, between the same hosts
-abbrev pub WrittenIsReduced : Type 0
-WrittenIsReduced =
-    (division : Division) (host other v : ℕ) → v < division.nodes
-    → is_among (broadcast_list division other host) v ≡ true → is_writable division host v ≡ true
-    → is_among (reduce_list division host other) v ≡ true
-
 -- a vertex that is listed for a broadcast and not carried by it shows what it showed before
 abbrev pub UntoldIsUnchanged : {Item State Shown : Type 0} → (Item → Type 0) → (Shown → Type 0) → (State → Type 0) → Type 0
 UntoldIsUnchanged {Item} {State} {Shown} IsItem IsShown IsState =
@@ -48,13 +39,6 @@ UntoldIsUnchanged {Item} {State} {Shown} IsItem IsShown IsState =
     → is_among (broadcast_list run.division from to) v ≡ true
     → carries run.shown_size (broadcast_packet run rounds from to) v ≡ false
     → shows run (suc rounds) v ≡ shows run rounds v
-
--- the ids of a list rise and are vertices
-abbrev pub ListsRise : Type 0
-ListsRise =
-    (division : Division) (from to : ℕ)
-    → (IsStrictlyIncreasing (reduce_list division from to) × All (λ v. v < division.nodes) (reduce_list division from to))
-    × (IsStrictlyIncreasing (broadcast_list division from to) × All (λ v. v < division.nodes) (broadcast_list division from to))
 
 -- what is sent of a reduce packet is a form for its list, so no check of its receiver fails
 abbrev pub ReducesAreForms : {Item State Shown : Type 0} → (Item → Type 0) → (Shown → Type 0) → (State → Type 0) → (Item → List ℕ) → Type 0

@@ -1,5 +1,3 @@
-pub mod Division
-pub mod Lists
 pub mod Runs
 pub mod Packets
 pub mod RunPackets

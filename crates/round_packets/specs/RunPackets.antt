@@ -2,8 +2,8 @@
 use Rattle.std.specs.Prelude.{ℕ, zero, suc, not, if◌then◌else◌, List}
 use Rattle.std.specs.List.{filter}
 use Rattle.reduce_laws.specs.ReductionLaws.{combined}
-use Rattle.round_packets.specs.Division.{hosts_of}
-use Rattle.round_packets.specs.Lists.{reduce_list, broadcast_list}
+use Rattle.graph_division.specs.Division.{hosts_of}
+use Rattle.graph_division.specs.Lists.{reduce_list, broadcast_list}
 use Rattle.round_packets.specs.Runs.{Run, shows, contribution}
 use Rattle.round_packets.specs.Packets.{Packet, carries}
 

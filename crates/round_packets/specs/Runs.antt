@@ -4,7 +4,7 @@ use Rattle.std.specs.Prelude.{ℕ}
 use Rattle.reduce_laws.specs.ReductionLaws.{Reducer, ReductionLaws}
 use Rattle.reduce_laws.specs.ProgramLaws.{Steps, ProgramLaws}
 use Rattle.lone_rounds.specs.Moments.{Moment, brought, moment_after}
-use Rattle.round_packets.specs.Division.{Division, IsDivision, whole}
+use Rattle.graph_division.specs.Division.{Division, IsDivision, whole}
 
 -- a program's parts, the graph that it runs on, and how many bytes its values take
 pub record Run (Item State Shown : Type 0) : Type 0 where

@@ -1,5 +1,5 @@
 //! Laws of runs over hosts. Each function does nothing: its contract is the law.
-ghost use Rattle.round_packets.specs.Laws.{KeptIsNoNews, GivenSettles, EntriesAreCarried, AgreeingHaveSameBytes, WrittenIsReduced, UntoldIsUnchanged, ListsRise, ReducesAreForms, BroadcastsAreForms};
+ghost use Rattle.round_packets.specs.Laws.{KeptIsNoNews, GivenSettles, EntriesAreCarried, AgreeingHaveSameBytes, UntoldIsUnchanged, ReducesAreForms, BroadcastsAreForms};
 
 use reduce_laws::{VertexProgram, Word};
 
@@ -23,20 +23,9 @@ pub fn agreeing_have_same_bytes<W: Word>()
     ensures { AgreeingHaveSameBytes W }
 {}
 
-/// A mirror that is listed for broadcasts and is written is listed for reduces too. So a master
-/// spreads to such a mirror only after the mirror's host has computed.
-pub fn written_is_reduced()
-    ensures { WrittenIsReduced }
-{}
-
 /// A vertex that is listed for a broadcast and not carried by it shows what it showed before.
 pub fn untold_is_unchanged<P: VertexProgram>()
     ensures { UntoldIsUnchanged P.Red.Item.IsValue P.Shown.IsValue P.IsState }
-{}
-
-/// The ids of the lists of two hosts rise and are vertices.
-pub fn lists_rise()
-    ensures { ListsRise }
 {}
 
 /// What is sent of the packets of a round is well formed for their lists.

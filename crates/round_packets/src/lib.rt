@@ -5,6 +5,6 @@
 mod laws;
 
 pub use laws::{
-    agreeing_have_same_bytes, entries_are_carried, given_settles, kept_is_no_news, lists_rise,
-    packets_are_forms, untold_is_unchanged, written_is_reduced,
+    agreeing_have_same_bytes, entries_are_carried, given_settles, kept_is_no_news,
+    packets_are_forms, untold_is_unchanged,
 };

@@ -7,8 +7,8 @@ use Rattle.graph_model.specs.declared.edge.Way.{Way}
 use Rattle.graph_model.specs.declared.edge.Way.TheVariants.{Outward, Inward, Both}
 use Rattle.graph_model.specs.Graph.{Graph, IsGraph, IsWithin, IsWeighed}
 use Rattle.graph_model.specs.Arcs.{out_arc, in_arc, arcs_of}
-use Rattle.lone_rounds.specs.ProgramArcs.{IsArcOf}
-use Rattle.lone_rounds.specs.Laws.{GraphsHaveArcs}
+use Rattle.graph_division.specs.ProgramArcs.{IsArcOf}
+use Rattle.graph_division.specs.Laws.{GraphsHaveArcs}
 
 -- an edge between nodes, of a weight of four bytes
 record IsEdgeOf (nodes : ℕ) (edge : Edge) : Type 0 where

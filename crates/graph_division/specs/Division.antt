@@ -2,7 +2,7 @@
 use Rattle.std.specs.Prelude.{◌<◌, ◌≤◌, ◌^◌, ℕ, List, All}
 use Rattle.std.specs.List.{flat_map, range_with_len}
 use Rattle.graph_model.specs.Arcs.{Arc}
-use Rattle.lone_rounds.specs.ProgramArcs.{IsArcOf}
+use Rattle.graph_division.specs.ProgramArcs.{IsArcOf}
 
 -- vertices and hosts are the numbers below `nodes` and below `hosts`
 pub record Division : Type 0 where

@@ -2,7 +2,7 @@
 -- of its host leads has nothing to send, and one from which none starts needs no news.
 use Rattle.std.specs.Prelude.{ℕ, ◌==◌, Bool, not, ◌&&◌, ◌||◌, List}
 use Rattle.std.specs.List.{filter, list_any, range_with_len}
-use Rattle.round_packets.specs.Division.{Division}
+use Rattle.graph_division.specs.Division.{Division}
 
 -- a vertex is read on a host: one of the host's arcs starts there
 abbrev pub is_readable : Division → (host v : ℕ) → Bool
