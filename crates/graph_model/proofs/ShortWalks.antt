@@ -150,10 +150,9 @@ simple_is_short nodes arcs within u (arc ∷ rest) v limit enough walk apart dis
       length-map (arc ∷ rest) (λ (a : Arc). a.tail),
     )
 
--- walks of fewer arcs than nodes give as little
-pub Gives_shorten : WalksShorten
-Gives_shorten fares graph way limit v total is_graph enough given =
-    let arcs = arcs_of way graph.edges in
+-- walks of fewer arcs than nodes give as little, whatever the arcs of the nodes
+pub Gives_shorten_arcs : (fares : Fares) (nodes : ℕ) (arcs : List Arc) (limit v total : ℕ) → All (IsArcWithin nodes) arcs → nodes ≤ limit + 1 → Gives fares arcs None v total → (less : ℕ) × (less ≤ total) × Gives fares arcs (Some limit) v less
+Gives_shorten_arcs fares nodes arcs limit v total within enough given =
     let simple = simplify arcs fares.cost given.from given.path v given.walk in (
       given.begin + cost_of fares.cost simple.path,
       omega (arith, given.adds_up, simple.cheap),
@@ -163,10 +162,15 @@ Gives_shorten fares graph way limit v total is_graph enough given =
         path = simple.path;
         starts = given.starts;
         walk = simple.walk;
-        short = simple_is_short graph.nodes arcs (arcs_within graph way is_graph) given.from simple.path v limit enough simple.walk simple.apart simple.distinct;
+        short = simple_is_short nodes arcs within given.from simple.path v limit enough simple.walk simple.apart simple.distinct;
         adds_up = refl;
       },
     )
+
+-- so it is for a graph's arcs
+pub Gives_shorten : WalksShorten
+Gives_shorten fares graph way limit v total is_graph enough given =
+    Gives_shorten_arcs fares graph.nodes (arcs_of way graph.edges) limit v total (arcs_within graph way is_graph) enough given
 
 -- the least of all walks is the least of those of fewer arcs than nodes
 least_within : (fares : Fares) (graph : Graph) (way : Way) (limit v : ℕ) (least : Option ℕ) → IsGraph graph → graph.nodes ≤ limit + 1 → IsLeast fares (arcs_of way graph.edges) None v least → IsLeast fares (arcs_of way graph.edges) (Some limit) v least

@@ -1,9 +1,11 @@
 -- Laws of walks and of the least that they give.
 use Rattle.std.specs.Prelude.{◌≡◌, ℕ, ◌+◌, ◌≤◌, ◌↔◌, ◌⊎◌, List, [], ◌∷◌, ◌++◌, Contains, Option, Some, None}
+use Rattle.std.specs.List.Sorted.{IsPermutation}
 use Rattle.graph_model.specs.Graph.{Graph, IsGraph}
 use Rattle.graph_model.specs.Arcs.{Arc, arcs_of}
 use Rattle.graph_model.specs.Walks.{IsWalk}
 use Rattle.graph_model.specs.Least.{Fares, Gives, IsLeast}
+use Rattle.graph_model.specs.WalkCount.{IsWalkCount}
 use Rattle.graph_model.specs.declared.edge.Way.{Way}
 
 -- a path of some arcs to the tail of a last arc
@@ -81,3 +83,28 @@ LeastIsWithinNodes =
     IsGraph graph → graph.nodes ≤ limit + 1 →
     IsLeast fares (arcs_of way graph.edges) None v least
     ↔ IsLeast fares (arcs_of way graph.edges) (Some limit) v least
+
+-- which arcs there are makes the least, and neither their order nor how often they stand
+abbrev pub ArcsAreASet : Type 0
+ArcsAreASet =
+    (fares : Fares) (arcs others : List Arc) (limit : Option ℕ) (v : ℕ) (least : Option ℕ) →
+    ((arc : Arc) → Contains arcs arc ↔ Contains others arc) →
+    IsLeast fares arcs limit v least → IsLeast fares others limit v least
+
+-- so the order of the arcs makes no difference
+abbrev pub LeastOrderIsFree : Type 0
+LeastOrderIsFree =
+    (fares : Fares) (arcs others : List Arc) (limit : Option ℕ) (v : ℕ) (least : Option ℕ) →
+    IsPermutation arcs others → IsLeast fares arcs limit v least → IsLeast fares others limit v least
+
+-- neither to the number of rounds
+abbrev pub WalkCountOrderIsFree : Type 0
+WalkCountOrderIsFree =
+    (fares : Fares) (nodes : ℕ) (arcs others : List Arc) (rounds : ℕ) →
+    IsPermutation arcs others → IsWalkCount fares nodes arcs rounds → IsWalkCount fares nodes others rounds
+
+-- walks take one number of rounds
+abbrev pub WalkCountIsUnique : Type 0
+WalkCountIsUnique =
+    (fares : Fares) (nodes : ℕ) (arcs : List Arc) (rounds others : ℕ) →
+    IsWalkCount fares nodes arcs rounds → IsWalkCount fares nodes arcs others → rounds ≡ others

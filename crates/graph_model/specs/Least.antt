@@ -1,9 +1,9 @@
--- The least that walks give to a vertex: the plain answer of a program that takes the least.
+-- The least that walks give to a node: the plain answer of a program that takes the least.
 use Rattle.std.specs.Prelude.{◌≡◌, ℕ, ◌+◌, ◌≤◌, List, length, Option, Some, None, ◌==◌, if◌then◌else◌}
 use Rattle.graph_model.specs.Arcs.{Arc}
 use Rattle.graph_model.specs.Walks.{IsWalk, cost_of}
 
--- what walks start with at each vertex, if they may start there, and what an arc of a weight costs
+-- what walks start with at each node, if they may start there, and what an arc of a weight costs
 pub record Fares : Type 0 where
   pub start : ℕ → Option ℕ
   pub cost : ℕ → ℕ
@@ -32,3 +32,11 @@ IsLeast fares arcs limit v (Some least) =
 -- breadth-first search starts at the root alone, and counts arcs
 abbrev pub bfs_fares : ℕ → Fares
 bfs_fares root = record { start = λ u. if u == root then Some 0 else None; cost = λ weight. 1 }
+
+-- shortest paths start at the root alone too, and count weights
+abbrev pub sssp_fares : ℕ → Fares
+sssp_fares root = record { start = λ u. if u == root then Some 0 else None; cost = λ weight. weight }
+
+-- components start at each node with its own number, and arcs cost nothing
+abbrev pub cc_fares : Fares
+cc_fares = record { start = λ u. Some u; cost = λ weight. 0 }

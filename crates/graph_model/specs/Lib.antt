@@ -2,4 +2,8 @@ pub mod Graph
 pub mod Arcs
 pub mod Walks
 pub mod Least
+pub mod WalkCount
 pub mod Laws
+pub mod Core
+pub mod Peeling
+pub mod CoreLaws

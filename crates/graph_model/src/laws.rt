@@ -2,7 +2,7 @@
 ghost use Rattle.std.specs.Prelude.{◌≡◌};
 ghost use Rattle.graph_model.specs.declared.edge_list.TheConstants.{MAX_NODES, MAX_EDGES};
 ghost use Rattle.graph_model.specs.Graph.{most_nodes, most_edges};
-ghost use Rattle.graph_model.specs.Laws.{WalksJoin, WalksCut, WalksEndByArc, LevelsStep, LevelsGrow, LevelsEnd, LeastIsUnique, WalksShorten, LeastIsWithinNodes};
+ghost use Rattle.graph_model.specs.Laws.{WalksJoin, WalksCut, WalksEndByArc, LevelsStep, LevelsGrow, LevelsEnd, LeastIsUnique, WalksShorten, LeastIsWithinNodes, ArcsAreASet, LeastOrderIsFree, WalkCountOrderIsFree, WalkCountIsUnique};
 
 /// The limits that code compares with are those of every graph.
 pub fn limits_hold()
@@ -53,4 +53,24 @@ pub fn walks_shorten()
 /// The least over all walks of a graph is the least over those of fewer arcs than nodes.
 pub fn least_is_within_nodes()
     ensures { LeastIsWithinNodes }
+{}
+
+/// Which arcs there are makes the least, and neither their order nor how often they stand.
+pub fn arcs_are_a_set()
+    ensures { ArcsAreASet }
+{}
+
+/// The order of the arcs makes no difference to the least.
+pub fn least_order_is_free()
+    ensures { LeastOrderIsFree }
+{}
+
+/// The order of the arcs makes no difference to the number of rounds that walks take.
+pub fn walk_count_order_is_free()
+    ensures { WalkCountOrderIsFree }
+{}
+
+/// Walks take one number of rounds.
+pub fn walk_count_is_unique()
+    ensures { WalkCountIsUnique }
 {}

@@ -1,7 +1,11 @@
 //! Each call once.
 use crate::{
-    Edge, EdgeList, Way, least_is_unique, least_is_within_nodes, levels_end, levels_grow,
-    levels_step, limits_hold, walks_cut, walks_end_by_arc, walks_join, walks_shorten,
+    Edge, EdgeList, Way, arcs_are_a_set, core_exists, core_is_unique, core_order_is_free,
+    last_peel_is_core, least_is_unique, least_is_within_nodes, least_order_is_free,
+    leaving_ends_at_last, levels_end, levels_grow, levels_step, limits_hold, peel_count_is_unique,
+    peel_count_order_is_free, peeling_ends, peeling_falls, peeling_order_is_free, peeling_stays,
+    still_peel_is_core, walk_count_is_unique, walk_count_order_is_free, walks_cut,
+    walks_end_by_arc, walks_join, walks_shorten,
 };
 use std::test::Fail;
 
@@ -37,4 +41,20 @@ fn laws_return() {
     least_is_unique();
     walks_shorten();
     least_is_within_nodes();
+    arcs_are_a_set();
+    least_order_is_free();
+    walk_count_order_is_free();
+    walk_count_is_unique();
+    peeling_falls();
+    peeling_stays();
+    still_peel_is_core();
+    peeling_ends();
+    last_peel_is_core();
+    leaving_ends_at_last();
+    core_exists();
+    core_is_unique();
+    peel_count_is_unique();
+    peeling_order_is_free();
+    peel_count_order_is_free();
+    core_order_is_free();
 }

@@ -3,7 +3,7 @@ use Rattle.std.proofs.Common.{◌≡◌, ℕ, zero, suc, ◌<◌, cond, not, ◌
 use Rattle.std.specs.List.{All}
 use Rattle.std.specs.List.Sorted.{IsPermutation}
 use Rattle.std.proofs.lemmas.List.Elements.{recursion_from_All, All-weaker}
-use Rattle.std.proofs.lemmas.List.Sorted.{All-permutation}
+use Rattle.std.proofs.lemmas.List.Sorted.{All-permutation, IsPermutation-sym}
 use Rattle.graph_model.specs.Arcs.{Arc}
 use Rattle.reduce_laws.specs.ReductionLaws.{Reducer, ReductionLaws, combined}
 use Rattle.reduce_laws.specs.ProgramLaws.{Steps, ProgramLaws}
@@ -11,7 +11,8 @@ use Rattle.reduce_laws.proofs.Combining.{combined-filter, value_or_identity, com
 use Rattle.reduce_laws.proofs.Reordering.{combined_permuted}
 use Rattle.lone_rounds.specs.Moments.{Moment, carried_along, brought, settled, moment_after}
 use Rattle.graph_division.specs.ProgramArcs.{IsArcOf, AreArcsOf}
-use Rattle.lone_rounds.specs.Laws.{ArcOrderIsFree}
+use Rattle.lone_rounds.specs.RoundCount.{IsQuietRound}
+use Rattle.lone_rounds.specs.Laws.{ArcOrderIsFree, RoundCountOrderIsFree}
 use Rattle.lone_rounds.proofs.Rounds.{HasStates, states_after}
 
 module _ {Item State Shown : Type 0} {IsItem : Item → Type 0} {IsShown : Shown → Type 0} {IsState : State → Type 0} {reducer : Reducer Item} {steps : Steps Item State Shown} (reduction : ReductionLaws IsItem reducer) (program : ProgramLaws IsItem IsShown IsState reducer steps) where
@@ -71,3 +72,22 @@ module _ {Item State Shown : Type 0} {IsItem : Item → Type 0} {IsShown : Shown
   pub arc_order_is_free : ArcOrderIsFree reducer steps
   arc_order_is_free nodes arcs others rounds v fact moved below =
       (alike_after nodes arcs others fact (record { few = fact.few; within = All-permutation (IsArcOf nodes) arcs others moved fact.within }) moved rounds v below).0
+
+  -- the arcs in another order are arcs of the same nodes
+  others_fit : (nodes : ℕ) (arcs others : List Arc) → AreArcsOf nodes arcs → IsPermutation arcs others → AreArcsOf nodes others
+  others_fit nodes arcs others fact moved = record { few = fact.few; within = All-permutation (IsArcOf nodes) arcs others moved fact.within }
+
+  -- and a quiet round is quiet on them
+  quiet_in_any_order : (nodes : ℕ) (arcs others : List Arc) (rounds : ℕ) → AreArcsOf nodes arcs → IsPermutation arcs others → IsQuietRound reducer steps nodes arcs rounds → IsQuietRound reducer steps nodes others rounds
+  quiet_in_any_order nodes arcs others rounds fact moved quiet u below =
+      ap steps.shown (sym (arc_order_is_free nodes arcs others (suc rounds) u fact moved below))
+      ∙ quiet u below
+      ∙ ap steps.shown (arc_order_is_free nodes arcs others rounds u fact moved below)
+
+  pub round_count_order_is_free : RoundCountOrderIsFree reducer steps
+  round_count_order_is_free nodes arcs others rounds fact moved count = record {
+    before = count.before;
+    last = count.last;
+    quiet = quiet_in_any_order nodes arcs others count.before fact moved count.quiet;
+    first = λ earlier quiet. count.first earlier (quiet_in_any_order nodes others arcs earlier (others_fit nodes arcs others fact moved) (IsPermutation-sym arcs others moved) quiet);
+  }

@@ -8,7 +8,8 @@ use Rattle.reduce_laws.specs.ProgramLaws.{Steps, ProgramLaws}
 use Rattle.lone_rounds.specs.Moments.{Moment, carried_along, live_arcs, brought, moment_after, state_after, shown_after}
 use Rattle.reduce_laws.proofs.Combining.{combined_is_value, combined-append, All-flat_map}
 use Rattle.graph_division.specs.ProgramArcs.{IsArcOf, AreArcsOf}
-use Rattle.lone_rounds.specs.Laws.{IsQuietRound, QuietStays, OnlyReachedChange, SharesBring}
+use Rattle.lone_rounds.specs.RoundCount.{IsQuietRound}
+use Rattle.lone_rounds.specs.Laws.{QuietStays, OnlyReachedChange, SharesBring, LastStays}
 
 -- nothing passes a test that all fail
 filter_none : {X : Type 0} (p : X → Bool) (xs : List X) → AllByRecursion (λ x. p x ≡ false) xs → filter p xs ≡ []
@@ -113,3 +114,8 @@ module _ {Item State Shown : Type 0} {IsItem : Item → Type 0} {IsShown : Shown
   pub quiet_stays : QuietStays reducer steps
   quiet_stays nodes arcs rounds later v fact below quiet after =
       stays nodes arcs (later - suc rounds) rounds later v fact quiet below (omega arith)
+
+  pub last_stays : LastStays reducer steps
+  last_stays nodes arcs rounds later v fact below count after =
+      quiet_stays nodes arcs count.before later v fact below count.quiet (let last = count.last in omega arith)
+      ∙ ap (λ n. state_after reducer steps arcs n v) (sym count.last)

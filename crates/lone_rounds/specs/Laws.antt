@@ -5,13 +5,9 @@ use Rattle.std.specs.List.Sorted.{IsPermutation}
 use Rattle.graph_model.specs.Arcs.{Arc}
 use Rattle.reduce_laws.specs.ReductionLaws.{Reducer, combined}
 use Rattle.reduce_laws.specs.ProgramLaws.{Steps}
-use Rattle.lone_rounds.specs.Moments.{live_arcs, brought, moment_after, state_after, shown_after}
+use Rattle.lone_rounds.specs.Moments.{live_arcs, brought, moment_after, state_after}
 use Rattle.graph_division.specs.ProgramArcs.{IsArcOf, AreArcsOf}
-
--- the round after so many changes no shown value
-abbrev pub IsQuietRound : {Item State Shown : Type 0} → Reducer Item → Steps Item State Shown → (nodes : ℕ) → List Arc → (rounds : ℕ) → Type 0
-IsQuietRound reducer steps nodes arcs rounds =
-    (u : ℕ) → u < nodes → shown_after reducer steps arcs (suc rounds) u ≡ shown_after reducer steps arcs rounds u
+use Rattle.lone_rounds.specs.RoundCount.{IsQuietRound, IsRoundCount}
 
 -- after a round that changed no shown value no state changes any more
 abbrev pub QuietStays : {Item State Shown : Type 0} → Reducer Item → Steps Item State Shown → Type 0
@@ -40,3 +36,22 @@ SharesBring reducer steps =
     → AreArcsOf nodes arcs → All (λ host. All (IsArcOf nodes) (share host)) hosts
     → brought reducer steps (flat_map share hosts) (moment_after reducer steps arcs rounds) v
     ≡ combined reducer (λ host. brought reducer steps (share host) (moment_after reducer steps arcs rounds) v) hosts
+
+-- a program takes one number of rounds
+abbrev pub RoundCountIsUnique : {Item State Shown : Type 0} → Reducer Item → Steps Item State Shown → Type 0
+RoundCountIsUnique reducer steps =
+    (nodes : ℕ) (arcs : List Arc) (rounds others : ℕ)
+    → IsRoundCount reducer steps nodes arcs rounds → IsRoundCount reducer steps nodes arcs others → rounds ≡ others
+
+-- from its last round on no state changes
+abbrev pub LastStays : {Item State Shown : Type 0} → Reducer Item → Steps Item State Shown → Type 0
+LastStays reducer steps =
+    (nodes : ℕ) (arcs : List Arc) (rounds later v : ℕ) → AreArcsOf nodes arcs → v < nodes
+    → IsRoundCount reducer steps nodes arcs rounds → rounds ≤ later
+    → state_after reducer steps arcs later v ≡ state_after reducer steps arcs rounds v
+
+-- the order of the arcs makes no difference to the number of rounds
+abbrev pub RoundCountOrderIsFree : {Item State Shown : Type 0} → Reducer Item → Steps Item State Shown → Type 0
+RoundCountOrderIsFree reducer steps =
+    (nodes : ℕ) (arcs others : List Arc) (rounds : ℕ) → AreArcsOf nodes arcs → IsPermutation arcs others
+    → IsRoundCount reducer steps nodes arcs rounds → IsRoundCount reducer steps nodes others rounds

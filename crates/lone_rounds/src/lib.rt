@@ -4,4 +4,7 @@
 
 mod laws;
 
-pub use laws::{arc_order_is_free, only_reached_change, quiet_stays, shares_bring};
+pub use laws::{
+    arc_order_is_free, last_stays, only_reached_change, quiet_stays, round_count_is_unique,
+    round_count_order_is_free, shares_bring,
+};
