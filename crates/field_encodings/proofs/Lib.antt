@@ -4,9 +4,9 @@ pub mod OneForm
 pub mod FormLength
 pub mod Accepted
 pub mod EntryOrderLemmas
+pub mod RisingSearch
 pub mod Lookups
 pub mod BitPlaces
-pub mod Upcoming
 pub mod FirstFault
 pub mod ReaderLemmas
 pub mod Shortest
@@ -14,3 +14,4 @@ pub mod Writing
 pub mod NextUpdated
 pub mod SentTag
 pub mod CarriedValues
+pub mod NextEntry

@@ -13,8 +13,8 @@ use Rattle.std.proofs.lemmas.Nat.{div-add-mod'}
 use Rattle.reduce_laws.specs.WordLaws.{WordLaws}
 use Rattle.list_laws.specs.LittleEndian.{numbers}
 use Rattle.field_encodings.specs.Checks.{paired, position_fault, id_fault, all_checked, bits_checked, positions_checked, ids_checked}
-use Rattle.list_laws.specs.Among.{place_of, AllAmong}
-use Rattle.field_encodings.specs.Places.{set_from, IsPositionWidth}
+use Rattle.list_laws.specs.Among.{place_of}
+use Rattle.field_encodings.specs.Places.{set_from, IsPositionWidth, StandFrom}
 use Rattle.field_encodings.proofs.Faults.{rising_from_id_fault}
 use Rattle.list_laws.proofs.WholeNumbers.{length-numbers}
 use Rattle.list_laws.proofs.Bits.{none_set}
@@ -156,8 +156,10 @@ module _ (word size : ℕ) (is_size : word ≡ size) (text : List ℕ) where
   ids_enough ids e =
       rw (length-map (numbers 4 (length text / (4 + word)) text) (place_of ids), length-numbers 4 (length text / (4 + word)) text, behind_names 4 size (length text / (4 + word)) text (whole_text 4 e)) (omega arith)
 
-pub known_from_check : (ids named : List ℕ) → id_fault ids named ≡ None → AllAmong ids named
-known_from_check ids named sound = (rising_from_id_fault ids named sound).1
+-- ids that pass stand among those of the list
+pub stand_from_check : (ids named : List ℕ) → id_fault ids named ≡ None → StandFrom ids 0 named
+stand_from_check ids named sound =
+    let known = rising_from_id_fault ids named sound in record { within = omega arith; rise = known.0; known = known.1 }
 
 -- what follows the names, as `&text[start..]` cuts it
 pub cut_behind : (start : ℕ) (text : List ℕ) → take (length text - start) (drop start text) ≡ drop start text

@@ -1,12 +1,14 @@
 -- The shortest of four forms, and the room that it takes.
-use Rattle.std.specs.Prelude.{◌≡◌, ◌≤◌, ◌<◌, ◌+◌, ◌*◌, ◌-◌, ℕ, zero, suc, cond, List, [], ◌∷◌, ◌++◌, length, nat_lt, refl}
-use Rattle.std.proofs.Common.{arith, get_or, set, sym, ap, subst, ◌∙◌}
+use Rattle.std.specs.Prelude.{◌≡◌, ◌≤◌, ◌<◌, ◌+◌, ◌*◌, ◌-◌, ℕ, zero, suc, cond, Bool, List, [], ◌∷◌, ◌++◌, length, take, drop, nat_lt, refl}
+use Rattle.std.proofs.Common.{arith, mul-pos, get_or, set, sym, ap, subst, ◌∙◌}
 use Rattle.std.proofs.lemmas.Bool.{cond_both}
 use borrow.Rule.Slice.PartMut.{put_mid}
-use Rattle.std.proofs.lemmas.List.{drop_all, append-nil}
-use Rattle.std.specs.List.{flat_map}
+use Rattle.std.proofs.lemmas.List.{drop_all, append-nil, nil_from_length}
+use Rattle.std.specs.List.{flat_map, items_where_true}
 use Rattle.list_laws.specs.LittleEndian.{le_bytes}
-use Rattle.field_encodings.specs.Forms.{position_text}
+use Rattle.list_laws.specs.Members.{members}
+use Rattle.list_laws.proofs.Chosen.{length-items}
+use Rattle.field_encodings.specs.Forms.{position_text, names, form}
 use Rattle.field_encodings.specs.Lengths.{greatest_of, width_for, form_length, IsShortest, IsSentTag}
 
 -- positions take four bytes at most
@@ -91,3 +93,34 @@ sent_is_tag (suc n) u greatest size tag s = (s.shortest (omega arith)).is_tag
 pub sent_moved : (n u v greatest g size tag : ℕ) → u ≡ v → greatest ≡ g → IsSentTag n u greatest size tag → IsSentTag n v g size tag
 sent_moved n u v greatest g size tag one same s =
     subst (λ z. IsSentTag n v z size tag) same (subst (λ z. IsSentTag n z greatest size tag) one s)
+
+-- ---- a list without updates
+
+-- tag 3 is sent
+pub sent_nothing : (n u greatest size : ℕ) → 0 < size → u ≡ 0 → IsSentTag n u greatest size 3
+sent_nothing n u greatest size some none =
+    subst (λ z. IsSentTag n z greatest size 3) (sym none) (record { shortest = λ full. record { is_tag = omega arith; least = λ other h. omega (arith, form_length-pos n 0 greatest size other); first = longer full }; empty = λ _. refl })
+  where
+    longer : 0 < n → (other : ℕ) → other < 3 → form_length n 0 greatest size 3 < form_length n 0 greatest size other
+    longer full zero h = omega (arith, mul-pos {m = n} {n = size} full some)
+    longer full (suc zero) h = omega arith
+    longer full (suc (suc zero)) h = omega arith
+    longer full (suc (suc (suc more))) h = absurd (omega arith)
+
+-- and is all that is sent
+pub form_of_nothing : {X : Type 0} (bytes_of : X → List ℕ) (ids : List ℕ) (marks : List Bool) (values : List X) → length ids ≡ length marks → length values ≡ length marks → length (members marks) ≡ 0
+    → form bytes_of 3 ids marks values ≡ 3 ∷ []
+unfolding names
+form_of_nothing {X} bytes_of ids marks values some_ids some_values none =
+    let no_ids : items_where_true marks ids ≡ [] = nil_from_length (items_where_true marks ids) (length-items marks ids 0 some_ids ∙ none) in
+    let no_values : items_where_true marks values ≡ [] = nil_from_length (items_where_true marks values) (length-items marks values 0 some_values ∙ none) in
+    rw (no_ids, no_values) refl
+
+-- one byte over the front
+pub front_set : (text : List ℕ) (byte : ℕ) → 0 < length text → take 1 (set text 0 byte) ≡ byte ∷ []
+front_set [] byte h = absurd (omega arith)
+front_set (x ∷ text) byte h = refl
+
+pub behind_set : (text : List ℕ) (byte : ℕ) → drop 1 (set text 0 byte) ≡ drop 1 text
+behind_set [] byte = refl
+behind_set (x ∷ text) byte = refl

@@ -44,7 +44,8 @@ fn write_form<W: Word>(list: &Outgoing<W>, tag: u8, text: &mut [u8])
     write_rest(list, tag, &mut text[1..]);
 }
 
-/// Writes the shortest form over the front of `out`.
+/// Writes the shortest form over the front of `out`. Without updates it is the tag 3 alone, which goes out
+/// at once.
 fn write_shortest<W: Word>(list: &Outgoing<W>, out: &mut [u8]) -> Coded
     requires short { length list.now.ids.now ≤ MAX_NODES }
     requires room { 1 + length list.now.ids.now * W.WIDTH ≤ length out.old }
@@ -54,6 +55,10 @@ fn write_shortest<W: Word>(list: &Outgoing<W>, out: &mut [u8]) -> Coded
         ≡ form W.bytes_of result.tag list.now.ids.now (marks_at list.now.bits.now list.now.locals.now) (values_at list.now.values.now list.now.locals.now) }
     ensures rest { drop result.len out.new ≡ drop result.len out.old }
 {
+    if list.count == 0 {
+        out[0] = 3;
+        return Coded { tag: 3, len: 1 };
+    }
     let coded = choose_form(list.ids.len() as u32, list.count, list.greatest, W::WIDTH);
     let text = &mut out[..coded.len as usize];
     write_form(list, coded.tag, text);
@@ -66,8 +71,8 @@ fn write_shortest<W: Word>(list: &Outgoing<W>, out: &mut [u8]) -> Coded
 /// empty list gives the one byte `03`. `out` has room for the form of all values; what lies behind the
 /// form stays.
 ///
-/// Where few positions are updated they are found from the set, so that a packet without updates costs
-/// no pass over the list.
+/// Where few positions are updated they are found from the set. Where it has no member from the list's
+/// first local number to its last, no position is looked at and `03` goes out at once.
 pub fn encode<W: Word>(
     values: &[W],
     locals: &[u32],

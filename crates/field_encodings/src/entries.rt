@@ -53,9 +53,8 @@ impl<'a, W: Word> Iterator for Entries<'a, W> {
     ghost remaining = { item_count (λ e. e) };
 
     fn next(&mut self) -> Option<(u32, W)> {
-        let (position, places) = next_position(self.places)?;
+        let position = next_position(&mut self.places)?;
         let (value, values) = self.values.split_at(W::WIDTH as usize);
-        self.places = places;
         self.values = values;
         Some((position, W::get(value)))
     }

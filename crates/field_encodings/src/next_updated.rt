@@ -12,8 +12,8 @@ use update_bits::UpdateBits;
 const NEAR: usize = 16;
 
 /// The first updated position from `place` on, found from the set: its next member is looked up in the
-/// list behind the place that is reached, until one is there.
-fn next_by_jumps(locals: &[u32], bits: &UpdateBits, place: usize) -> Option<u32>
+/// list behind the place that is reached, until one is there or it is above the list's last.
+pub(crate) fn next_by_jumps(locals: &[u32], bits: &UpdateBits, place: usize) -> Option<u32>
     requires within { place ≤ length locals.now }
     requires short { length locals.now < 2 ^ 32 }
     requires rise { IsStrictlyIncreasing locals.now }
@@ -23,6 +23,9 @@ fn next_by_jumps(locals: &[u32], bits: &UpdateBits, place: usize) -> Option<u32>
     let mut from = place;
     while from < locals.len() {
         let member = bits.next_from(locals[from])?;
+        if member > locals[locals.len() - 1] {
+            return None;
+        }
         match find_from(locals, from, member) {
             Ok(found) => return Some(found as u32),
             Err(behind) => from = behind,

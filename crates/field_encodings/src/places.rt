@@ -1,16 +1,16 @@
 //! Where the positions of entries are read from.
-ghost use Rattle.std.specs.Prelude.{◌≡◌, ◌<◌, ◌≤◌, ◌+◌, ◌*◌, ◌^◌, [], ◌∷◌, length, map, MatchOption};
+ghost use Rattle.std.specs.Prelude.{◌≡◌, ◌<◌, ◌≤◌, ◌+◌, ◌*◌, ◌^◌, [], ◌∷◌, drop, length, map, MatchOption};
 ghost use Rattle.std.specs.List.Sorted.{IsStrictlyIncreasing};
-ghost use Rattle.list_laws.specs.Among.{place_of, AllAmong};
+ghost use Rattle.list_laws.specs.Among.{place_of};
 ghost use Rattle.list_laws.specs.LittleEndian.{numbers};
-ghost use Rattle.field_encodings.specs.Places.{coming, AreReady, IsPositionWidth};
+ghost use Rattle.field_encodings.specs.Places.{coming, AreReady, IsPositionWidth, StandFrom};
 
 use crate::bit_places::next_bit;
-use crate::id_places::place_in;
-use crate::number_text::number_at;
+use crate::id_places::place_from;
+use crate::number_text::{number_at, wide_number_at};
 
 /// Where the positions of the entries to come are read from.
-#[derive(Clone, Copy)]
+#[derive(Drop)]
 pub(crate) enum Places<'a> {
     /// The next `left` positions from `next` on.
     All {
@@ -22,81 +22,98 @@ pub(crate) enum Places<'a> {
         bits: &'a [u8],
         next: u32,
     },
-    /// The first `left` numbers of `text`, which take `width` bytes each.
+    /// The first `count` numbers of `text`, which take `width` bytes each, from turn `next` on.
     Numbers {
-        left: usize,
+        next: usize,
+        count: usize,
         width: u8,
         text: &'a [u8],
     },
-    /// The first `left` global ids of `text`, each of which stands in `ids`.
+    /// The first `count` global ids of `text`, from turn `next` on. Each of these stands in `ids`, at
+    /// place `from` or behind.
     Ids {
-        left: usize,
+        next: usize,
+        count: usize,
+        from: u32,
         text: &'a [u8],
         ids: &'a [u32],
     },
 }
 
-/// The first of the numbers to come, and the places of the others.
-fn next_number(left: usize, width: u8, text: &[u8]) -> Option<(u32, Places<'_>)>
+/// The number at turn `next` of the first `count` of a text.
+fn next_number(next: usize, count: usize, width: u8, text: &[u8]) -> Option<u32>
     requires width { IsPositionWidth width }
-    requires within { left * width ≤ length text.now }
-    ensures first { MatchOption result (numbers width left text.now ≡ []) (λ found. numbers width left text.now ≡ found.0 ∷ coming found.1) }
-    ensures ready { MatchOption result (Unit {0}) (λ found. AreReady found.1) }
+    requires within { count * width ≤ length text.now }
+    ensures turn { MatchOption result (Unit {0}) (λ _. next < count) }
+    ensures first { MatchOption result (drop next (numbers width count text.now) ≡ [])
+        (λ found. drop next (numbers width count text.now) ≡ found ∷ drop (next + 1) (numbers width count text.now)) }
 {
-    if left == 0 {
+    if next >= count {
         return None;
     }
-    let position = number_at(width, text, 0);
-    let text = &text[width as usize..];
-    let left = left - 1;
-    Some((position, Places::Numbers { left, width, text }))
+    Some(wide_number_at(width, text, next))
 }
 
-/// The place of the first of the ids to come, and the places of the others.
-fn next_id<'a>(left: usize, text: &'a [u8], ids: &'a [u32]) -> Option<(u32, Places<'a>)>
-    requires within { left * 4 ≤ length text.now }
+/// The place of the id at turn `next` of the first `count` of a text.
+fn next_id(next: usize, count: usize, from: u32, text: &[u8], ids: &[u32]) -> Option<u32>
+    requires within { count * 4 ≤ length text.now }
     requires short { length ids.now < 2 ^ 32 }
     requires rising { IsStrictlyIncreasing ids.now }
-    requires known { AllAmong ids.now (numbers 4 left text.now) }
-    ensures first { MatchOption result (numbers 4 left text.now ≡ [])
-        (λ found. map (place_of ids.now) (numbers 4 left text.now) ≡ found.0 ∷ coming found.1) }
-    ensures ready { MatchOption result (Unit {0}) (λ found. AreReady found.1) }
+    requires stand { StandFrom ids.now from (drop next (numbers 4 count text.now)) }
+    ensures turn { MatchOption result (Unit {0}) (λ _. next < count) }
+    ensures first { MatchOption result (drop next (numbers 4 count text.now) ≡ [])
+        (λ found. map (place_of ids.now) (drop next (numbers 4 count text.now)) ≡ found ∷ map (place_of ids.now) (drop (next + 1) (numbers 4 count text.now))) }
+    ensures place { MatchOption result (Unit {0}) (λ found. found < length ids.now) }
+    ensures stand { MatchOption result (Unit {0}) (λ found. StandFrom ids.now (found + 1) (drop (next + 1) (numbers 4 count text.now))) }
 {
-    if left == 0 {
+    if next >= count {
         return None;
     }
-    let position = place_in(ids, number_at(4, text, 0)).unwrap();
-    let text = &text[4..];
-    let left = left - 1;
-    Some((position, Places::Ids { left, text, ids }))
+    Some(place_from(ids, from, number_at::<4>(text, next)).unwrap())
 }
 
-/// The first position to come, and the places of the others.
-pub(crate) fn next_position(places: Places<'_>) -> Option<(u32, Places<'_>)>
-    requires { AreReady places }
-    ensures first { MatchOption result (coming places.entry ≡ []) (λ found. coming places.entry ≡ found.0 ∷ coming found.1) }
-    ensures ready { MatchOption result (Unit {0}) (λ found. AreReady found.1) }
+/// The first position to come, which is passed.
+pub(crate) fn next_position(places: &mut Places<'_>) -> Option<u32>
+    requires { AreReady places.old }
+    ensures first { MatchOption result ((coming places.old ≡ []) × (coming places.new ≡ [])) (λ found. coming places.old ≡ found ∷ coming places.new) }
+    ensures ready { AreReady places.new }
 {
     match places {
         Places::All { next, left } => {
-            if left == 0 {
+            if *left == 0 {
                 return None;
             }
-            let left = left - 1;
-            Some((
-                next,
-                Places::All {
-                    next: next + 1,
-                    left,
-                },
-            ))
+            let position = *next;
+            *next += 1;
+            *left -= 1;
+            Some(position)
         }
         Places::Bits { bits, next } => {
-            let position = next_bit(bits, next)?;
-            let next = position + 1;
-            Some((position, Places::Bits { bits, next }))
+            let position = next_bit(bits, *next)?;
+            *next = position + 1;
+            Some(position)
         }
-        Places::Numbers { left, width, text } => next_number(left, width, text),
-        Places::Ids { left, text, ids } => next_id(left, text, ids),
+        Places::Numbers {
+            next,
+            count,
+            width,
+            text,
+        } => {
+            let position = next_number(*next, *count, *width, text)?;
+            *next += 1;
+            Some(position)
+        }
+        Places::Ids {
+            next,
+            count,
+            from,
+            text,
+            ids,
+        } => {
+            let position = next_id(*next, *count, *from, text, ids)?;
+            *next += 1;
+            *from = position + 1;
+            Some(position)
+        }
     }
 }

@@ -93,7 +93,13 @@ pub(crate) fn read_positions<'a, W: Word>(
         return Err(DecodeFault::Width(width));
     }
     let values = &text[left * width as usize..];
-    Ok(Entries::new(Places::Numbers { left, width, text }, values))
+    let places = Places::Numbers {
+        next: 0,
+        count: left,
+        width,
+        text,
+    };
+    Ok(Entries::new(places, values))
 }
 
 /// What follows tag 3, for a list with these ids.
@@ -113,5 +119,12 @@ pub(crate) fn read_ids<'a, W: Word>(
     }
     check_ids(left, text, ids)?;
     let values = &text[left * 4..];
-    Ok(Entries::new(Places::Ids { left, text, ids }, values))
+    let places = Places::Ids {
+        next: 0,
+        count: left,
+        from: 0,
+        text,
+        ids,
+    };
+    Ok(Entries::new(places, values))
 }

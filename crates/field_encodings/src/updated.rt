@@ -6,7 +6,7 @@ ghost use Rattle.list_laws.specs.Members.{members};
 ghost use Rattle.field_encodings.specs.Lists.{marks_at};
 ghost use Rattle.field_encodings.specs.Lengths.{greatest_of};
 
-use crate::next_updated::next_updated;
+use crate::next_updated::{next_by_jumps, next_updated};
 use update_bits::UpdateBits;
 
 /// The updated positions of a list.
@@ -18,7 +18,8 @@ pub(crate) struct Updated {
     pub(crate) greatest: u32,
 }
 
-/// Counts the updated positions, from one to the next.
+/// Counts the updated positions, from one to the next. The first is found from the set, so that where
+/// there is none no position is tried.
 pub(crate) fn count_updated(locals: &[u32], bits: &UpdateBits) -> Updated
     requires short { length locals.now < 2 ^ 32 }
     requires rise { IsStrictlyIncreasing locals.now }
@@ -28,9 +29,15 @@ pub(crate) fn count_updated(locals: &[u32], bits: &UpdateBits) -> Updated
     ensures few { result.count ≤ length locals.now }
     ensures within { 0 < result.count → result.greatest < length locals.now }
 {
-    let mut count = 0;
-    let mut greatest = 0;
-    let mut place = 0;
+    let Some(first) = next_by_jumps(locals, bits, 0) else {
+        return Updated {
+            count: 0,
+            greatest: 0,
+        };
+    };
+    let mut count = 1;
+    let mut greatest = first;
+    let mut place = first + 1;
     while let Some(position) = next_updated(locals, bits, place) {
         count += 1;
         greatest = position;

@@ -2,7 +2,7 @@ use Rattle.std.proofs.Common.{None, Some, arith, inl, inr}
 use Rattle.std.proofs.lemmas.Bool.{cases_lt}
 use Rattle.list_laws.proofs.Since.{next_member-later}
 use Rattle.field_encodings.specs.Lists.{marks_at}
-use Rattle.field_encodings.proofs.NextUpdated.{jump_none, jump_found, jump_none_before}
+use Rattle.field_encodings.proofs.NextUpdated.{jump_none, jump_past, jump_found, jump_none_before}
 use Rattle.field_encodings.proofs.next_updated.next_by_jumps.Goals as goal
 
 pub returns-in_err-member : goal.returns-in_err-member
@@ -25,3 +25,8 @@ loop-from-preserved c = record {
     | inr high ↦ jump_none_before c.args.bits.now c.args.locals.now c.requires.rise c.loop-from.from c.in-Err.behind _ c.in-Err.ensures.1 c.in-Err.ensures.2 c.in_ok-member.ensures.next k high b
   ];
 }
+
+pub returns-then-member-locals : goal.returns-then-member-locals
+returns-then-member-locals c =
+    next_member-later (marks_at c.args.bits.now c.args.locals.now) c.args.place c.loop-from.from None c.loop-from.invariant.since c.loop-from.invariant.none
+    (jump_past c.args.bits.now c.args.locals.now c.requires.rise c.loop-from.from _ (omega arith) c.in_ok-member.ensures.next)

@@ -1,5 +1,5 @@
 use Rattle.std.proofs.Common.{arith}
-use Rattle.field_encodings.proofs.ReaderLemmas.{ids_enough, known_from_check}
+use Rattle.field_encodings.proofs.ReaderLemmas.{ids_enough, stand_from_check}
 use Rattle.field_encodings.proofs.readers.read_ids.Goals as goal
 
 pub new-requires-clause-enough : goal.new-requires-clause-enough
@@ -8,4 +8,4 @@ new-requires-clause-enough g c =
 
 pub new-requires-clause-ready : goal.new-requires-clause-ready
 new-requires-clause-ready g c =
-    (omega (arith, c.if-text-left.false), omega (arith, c.requires.short), c.requires.rising, known_from_check c.args.ids.now _ c.in_ok-check_ids.ensures)
+    (omega (arith, c.if-text-left.false), omega (arith, c.requires.short), c.requires.rising, stand_from_check c.args.ids.now _ c.in_ok-check_ids.ensures)
