@@ -1,0 +1,5 @@
+pub mod Labels
+pub mod Programs
+pub mod Laws
+pub mod LabelPackets
+pub mod RunLaws
