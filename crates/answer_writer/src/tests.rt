@@ -1,6 +1,7 @@
 //! The bytes of each line, and what a sink that fails holds of it.
 use super::*;
 use io_edge::MemorySink;
+use packet_table::{ChannelSpec, Leg};
 use std::alloc::Global;
 use std::test::Fail;
 
@@ -71,5 +72,51 @@ fn reports_have_four_counts_and_three_classes(rt: HostRuntime) -> Result<(), Fai
     let want =
         b"rounds 3\npackets 0\nbytes 340282366920938463463374607431768211455\nmirrors 2\nno-out yes\nno-in no\nno-both yes\n";
     assert_eq!(rt; sink.held(), want.as_slice());
+    Ok(())
+}
+
+#[test]
+fn packets_stand_with_their_round_leg_hosts_and_bytes(rt: HostRuntime) -> Result<(), Fail> {
+    let alloc: Global = rt.alloc();
+    let mut sink = MemorySink::new(alloc, 100, 9, Vec::new(alloc))?;
+    let reduce = ChannelSpec {
+        leg: Leg::Reduce,
+        from: 0,
+        to: 1,
+        room: 9,
+    };
+    let spread = ChannelSpec {
+        leg: Leg::Spread,
+        from: 63,
+        to: 2,
+        room: 1,
+    };
+    assert_eq!(rt;
+        write_trace(&mut sink, 1, reduce, &[1, 5, 0xab, 0xff]),
+        Ok(())
+    );
+    assert_eq!(rt; write_trace(&mut sink, 20, spread, &[3]), Ok(()));
+    assert_eq!(rt; write_trace(&mut sink, 3, reduce, &[]), Ok(()));
+    let want = b"round 1 reduce 0 1 0105abff\nround 20 spread 63 2 03\nround 3 reduce 0 1 \n";
+    assert_eq!(rt; sink.held(), want.as_slice());
+    Ok(())
+}
+
+#[test]
+fn long_packets_go_out_piece_by_piece(rt: HostRuntime) -> Result<(), Fail> {
+    let alloc: Global = rt.alloc();
+    let mut sink = MemorySink::new(alloc, 20_000, 20_000, Vec::new(alloc))?;
+    let spec = ChannelSpec {
+        leg: Leg::Reduce,
+        from: 0,
+        to: 1,
+        room: 9,
+    };
+    let payload = vec![in alloc; 0x5a; 4_500]?;
+    assert_eq!(rt; write_trace(&mut sink, 1, spec, &payload), Ok(()));
+    let line = sink.held();
+    assert_eq!(rt; line.len(), 9_020);
+    assert_eq!(rt; line.iter().filter(|byte| **byte == b'5').count(), 4_500);
+    assert_eq!(rt; line.last(), Some(&b'\n'));
     Ok(())
 }

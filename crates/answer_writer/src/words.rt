@@ -80,7 +80,7 @@ fn write_spaced_numbers<K: Sink>(sink: &mut K, numbers: &[u64]) -> Result<(), Si
 }
 
 /// Writes a space, and then the number.
-fn write_spaced_number<K: Sink>(sink: &mut K, n: u64) -> Result<(), SinkFault>
+pub(crate) fn write_spaced_number<K: Sink>(sink: &mut K, n: u64) -> Result<(), SinkFault>
     ensures written { Wrote K.Sink result sink.old sink.new (spaced_number n) }
 {
     let mut text = [0; SPACED_BYTES];
