@@ -6,7 +6,10 @@ ghost use Rattle.reduce_laws.specs.NumberWords.{nat_eq_is_same};
 use crate::{
     end_laws, number_laws, one_round, packets_are_posted, rounds_end, step_laws, table_laws,
 };
-use graph_division::{graphs_have_arcs, lists_rise, written_is_reduced};
+use graph_division::{
+    file_order_stays, graphs_have_arcs, hosts_see_themselves, lists_rise, mirrors_are_of_no_way,
+    partitions_divide, written_is_reduced,
+};
 use host_laws::{
     close_stands, compute_stands, fresh_stands, spread_stands, take_broadcast_stands,
     take_reduce_stands,
@@ -93,6 +96,10 @@ fn laws_of_divisions_return() {
     graphs_have_arcs();
     lists_rise();
     written_is_reduced();
+    partitions_divide();
+    hosts_see_themselves();
+    mirrors_are_of_no_way();
+    file_order_stays();
 }
 
 #[test]

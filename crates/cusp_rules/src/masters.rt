@@ -47,6 +47,16 @@ impl Masters {
         })
     }
 
+    /// The same masters once more.
+    pub fn try_clone(&self, alloc: Global) -> Result<Masters, AllocError>
+        ensures same { IfOk result (λ made. made ≡ self.now) }
+        ensures facts { IsAssignment self.now }
+    {
+        Ok(Masters {
+            bounds: Vec::from_slice(alloc, self.bounds.as_slice())?,
+        })
+    }
+
     /// The master of vertex `v`, which is below the number of vertices.
     pub fn master(&self, v: u32) -> u16
         requires { v < length self.now.masters }

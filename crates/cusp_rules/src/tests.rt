@@ -54,6 +54,7 @@ fn hosts_have_blocks_of_vertices(rt: HostRuntime) -> Result<(), Fail> {
     ] {
         assert!(rt; are_starts(starts) && !want.is_empty() && want.len() <= 64);
         let masters = Masters::new(rt.alloc(), rule, want.len() as u16, starts)?;
+        let masters = masters.try_clone(rt.alloc())?;
         assert_eq!(rt; usize::from(masters.hosts()), want.len());
         for (h, range) in want.iter().enumerate() {
             let host = h as u16;

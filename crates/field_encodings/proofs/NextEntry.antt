@@ -67,7 +67,7 @@ module _ {X : Type 0} {IsValue : X → Type 0} (locals : List ℕ) (rise : IsStr
             ap (changed (get_or locals p 0) (get_or new (get_or locals p 0) d)) none_left
             ∙ none_stays (get_or locals p 0) (get_or new (get_or locals p 0) d)
             ∙ here ∙ ap (changed (get_or locals p 0) (get_or now (get_or locals p 0) d)) (sym value_here)
-          )
+            )
         | inr other ↦ ap (λ y. changed l y (value_at rest (place_of locals l))) (others l (λ e. other.1 (sym e)))
             ∙ ap (changed l (get_or now l d)) (sym (value_elsewhere l other.1))
       ]

@@ -1,6 +1,9 @@
 pub mod ProgramArcs
 pub mod Division
 pub mod Lists
+pub mod DivisionOf
 pub mod Laws
 pub mod Shares
 pub mod Partition
+pub mod PartitionLaws
+pub mod Classes

@@ -1,12 +1,12 @@
 -- All hosts' shares of one graph, by host.
-use Rattle.std.specs.Prelude.{◌≡◌, ◌≤◌, ◌<◌, ℕ, zero, suc, List, [], ◌∷◌, length, slice_get, Some}
+use Rattle.std.specs.Prelude.{◌≡◌, ◌≤◌, ℕ, zero, suc, List, [], ◌∷◌, length, slice_get, Some}
 use Rattle.std.specs.List.{flat_map, sum_by, slice_index_or}
 use Rattle.graph_model.specs.Graph.{Graph, most_edges}
 use Rattle.graph_model.specs.Arcs.{arcs_of}
 use Rattle.graph_model.specs.declared.edge.Edge.{Edge}
 use Rattle.graph_model.specs.declared.edge.Way.{Way}
 use Rattle.graph_division.specs.Division.{Division}
-use Rattle.graph_division.specs.Shares.{Share, IsShare, nodes_of}
+use Rattle.graph_division.specs.Shares.{Share, IsShare}
 
 -- the masters on which all hosts agree: those of the first share
 abbrev pub masters_of_all : List Share → List ℕ

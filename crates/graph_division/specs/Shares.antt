@@ -1,8 +1,8 @@
 -- What one host holds of a divided graph, and what it can tell from that alone.
-use Rattle.std.specs.Prelude.{◌≡◌, ◌≤◌, ◌<◌, ℕ, ◌==◌, List, ◌++◌, length, All}
-use Rattle.std.specs.List.{filter, range_with_len, slice_index_or}
+use Rattle.std.specs.Prelude.{◌≤◌, ◌<◌, ℕ, ◌==◌, List, ◌++◌, length, All}
+use Rattle.std.specs.List.{filter, flat_map, range_with_len, slice_index_or}
 use Rattle.std.specs.List.Sorted.{IsNonDecreasing}
-use Rattle.graph_model.specs.Graph.{most_nodes, most_edges, IsWithin, IsWeighed}
+use Rattle.graph_model.specs.Graph.{most_nodes, most_edges, IsWithin, IsWeighed, IsBySource}
 use Rattle.graph_model.specs.Arcs.{arcs_of}
 use Rattle.graph_model.specs.declared.edge.Edge.{Edge}
 use Rattle.graph_model.specs.declared.edge.Way.{Way}
@@ -32,6 +32,11 @@ pub record IsShare (share : Share) : Type 0 where
   pub contiguous : IsNonDecreasing share.masters
   pub within : All (IsWithin (nodes_of share)) share.edges
   pub weighed : All IsWeighed share.edges
+  pub by_source : IsBySource share.edges
+
+-- edges by source, and those of one source as they came; where sources do not fall they stay as they are
+abbrev pub in_file_order : (nodes : ℕ) → List Edge → List Edge
+in_file_order nodes edges = flat_map (λ v. filter (λ edge. edge.src == v) edges) (range_with_len 0 nodes)
 
 -- The graph as a host knows it, whose edges are followed in a way. What its arcs say is right of this
 -- host alone.

@@ -5,4 +5,7 @@
 
 mod laws;
 
-pub use laws::{graphs_have_arcs, lists_rise, written_is_reduced};
+pub use laws::{
+    file_order_stays, graphs_have_arcs, hosts_see_themselves, lists_rise, mirrors_are_of_no_way,
+    partitions_divide, written_is_reduced,
+};

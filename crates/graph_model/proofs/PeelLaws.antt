@@ -2,20 +2,14 @@
 use Rattle.std.proofs.Common.{◌≡◌, ℕ, zero, suc, ◌+◌, ◌<◌, ◌≤◌, ◌⊎◌, inl, inr, Bool, true, false, cond, ◌&&◌, leb, List, refl, sym, ◌∙◌, ap, subst, arith}
 use Rattle.std.specs.List.Sorted.{IsPermutation}
 use Rattle.std.proofs.lemmas.List.Sorted.{IsPermutation-sym}
+use Rattle.std.specs.Cmp.{both_ways}
+use Rattle.std.proofs.lemmas.Bool.{and_parts, and_from, leb-true, le-leb}
 use Rattle.std.proofs.lemmas.Bool.Decides.{eqb_tells, leb_tells}
 use Rattle.graph_model.specs.Arcs.{Arc}
 use Rattle.graph_model.specs.Core.{inner_degree, HoldsDegree}
 use Rattle.graph_model.specs.Peeling.{peel, NobodyLeaves}
 use Rattle.graph_model.specs.CoreLaws.{PeelingFalls, PeelingStays, StillPeelIsCore, PeelingEnds, LastPeelIsCore, LeavingEndsAtLast, CoreExists, CoreIsUnique, PeelCountIsUnique, PeelingOrderIsFree, PeelCountOrderIsFree, CoreOrderIsFree}
-use Rattle.graph_model.proofs.InnerDegrees.{and_left, and_right, and_both, both_ways, inner_degree_grows, inner_degree_agrees, inner_degree_permuted}
-
--- a test that passes tells an order
-pub leb_is : (a b : ℕ) → leb a b ≡ true → a ≤ b
-leb_is a b h = elim (leb_tells a b) [ inl low ↦ low.1 | inr high ↦ absurd (let bad = high.0 in cc) ]
-
--- and an order passes it
-pub le_passes : (a b : ℕ) → a ≤ b → leb a b ≡ true
-le_passes a b h = elim (leb_tells a b) [ inl low ↦ low.0 | inr high ↦ absurd (let bad = high.1 in omega arith) ]
+use Rattle.graph_model.proofs.InnerDegrees.{inner_degree_grows, inner_degree_agrees, inner_degree_permuted}
 
 -- two tests that follow from no truth
 neither : (a b : Bool) → (a ≡ true → ⊥) → (b ≡ true → ⊥) → a ≡ b
@@ -84,7 +78,7 @@ record Rest (k nodes : ℕ) (arcs : List Arc) (most : ℕ) : Type 0 where
 module _ (k nodes : ℕ) (arcs : List Arc) where
   -- who is left in a round was left before
   falls : (rounds v : ℕ) → peel k nodes arcs (suc rounds) v ≡ true → peel k nodes arcs rounds v ≡ true
-  falls rounds v h = and_left (peel k nodes arcs rounds v) (leb k (inner_degree arcs (peel k nodes arcs rounds) v)) h
+  falls rounds v h = (and_parts (peel k nodes arcs rounds v) (leb k (inner_degree arcs (peel k nodes arcs rounds) v)) h).0
 
   pub falls_to : (rounds later v : ℕ) → rounds ≤ later → peel k nodes arcs later v ≡ true → peel k nodes arcs rounds v ≡ true
   falls_to rounds zero v le h = ap (λ n. peel k nodes arcs n v) (let same : rounds ≡ zero = omega arith in same) ∙ h
@@ -96,7 +90,7 @@ module _ (k nodes : ℕ) (arcs : List Arc) where
 
   -- who is left is a node
   pub peel_within : (rounds v : ℕ) → peel k nodes arcs rounds v ≡ true → v < nodes
-  peel_within rounds v h = leb_is (suc v) nodes (falls_to 0 rounds v (omega arith) h)
+  peel_within rounds v h = leb-true (suc v) nodes (falls_to 0 rounds v (omega arith) h)
 
   -- where nobody leaves nobody at all does
   quiet_everywhere : (rounds : ℕ) → NobodyLeaves k nodes arcs rounds → (v : ℕ) → peel k nodes arcs (suc rounds) v ≡ peel k nodes arcs rounds v
@@ -125,18 +119,18 @@ module _ (k nodes : ℕ) (arcs : List Arc) where
 
   -- a set that holds its degree is never peeled
   holds_on : (set : ℕ → Bool) → HoldsDegree k nodes arcs set → (rounds v : ℕ) → set v ≡ true → peel k nodes arcs rounds v ≡ true
-  holds_on set fact zero v h = le_passes (suc v) nodes (fact.within v h)
+  holds_on set fact zero v h = le-leb (suc v) nodes (fact.within v h)
   holds_on set fact (suc rounds) v h =
-      and_both (peel k nodes arcs rounds v) (leb k (inner_degree arcs (peel k nodes arcs rounds) v)) (holds_on set fact rounds v h)
-      (le_passes k (inner_degree arcs (peel k nodes arcs rounds) v)
+      and_from (peel k nodes arcs rounds v) (leb k (inner_degree arcs (peel k nodes arcs rounds) v)) (holds_on set fact rounds v h)
+      (le-leb k (inner_degree arcs (peel k nodes arcs rounds) v)
       (let enough = fact.enough v h in
       let more = inner_degree_grows arcs set (peel k nodes arcs rounds) v (holds_on set fact rounds) in omega arith))
 
   -- in a round in which nobody leaves each has its degree
   keeps_degree : (rounds v : ℕ) → NobodyLeaves k nodes arcs rounds → peel k nodes arcs rounds v ≡ true → k ≤ inner_degree arcs (peel k nodes arcs rounds) v
   keeps_degree rounds v quiet h =
-      leb_is k (inner_degree arcs (peel k nodes arcs rounds) v)
-      (and_right (peel k nodes arcs rounds v) (leb k (inner_degree arcs (peel k nodes arcs rounds) v)) (quiet_everywhere rounds quiet v ∙ h))
+      leb-true k (inner_degree arcs (peel k nodes arcs rounds) v)
+      (and_parts (peel k nodes arcs rounds v) (leb k (inner_degree arcs (peel k nodes arcs rounds) v)) (quiet_everywhere rounds quiet v ∙ h)).1
 
   -- the search for the first round in which nobody leaves
   rest_from : (fuel rounds most : ℕ) → rounds + fuel ≡ most → members (peel k nodes arcs rounds) nodes ≤ fuel → ((earlier : ℕ) → NobodyLeaves k nodes arcs earlier → rounds ≤ earlier) → Rest k nodes arcs most

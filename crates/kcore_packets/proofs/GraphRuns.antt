@@ -1,18 +1,18 @@
 -- A run of k-core over hosts peels its whole graph, whichever way the graph is divided.
-use Rattle.std.proofs.Common.{◌≡◌, ℕ, zero, suc, ◌+◌, ◌<◌, ◌≤◌, cond, Bool, Some, List, refl, sym, ◌∙◌, ap, subst, arith}
+use Rattle.std.proofs.Common.{◌≡◌, ℕ, zero, suc, cond, List, refl, sym, ◌∙◌, ap, subst}
 use Rattle.std.specs.List.Sorted.{IsPermutation}
 use Rattle.std.proofs.lemmas.List.Sorted.{IsPermutation-sym}
 use Rattle.graph_model.specs.Graph.{Graph, IsGraph}
 use Rattle.graph_model.specs.Arcs.{Arc, arcs_of}
 use Rattle.graph_model.specs.declared.edge.Way.{Way}
-use Rattle.graph_model.specs.Core.{inner_degree, IsCore}
+use Rattle.graph_model.specs.Core.{inner_degree}
 use Rattle.graph_model.specs.Peeling.{peel, IsPeelCount}
 use Rattle.graph_model.proofs.InnerDegrees.{inner_degree_agrees, inner_degree_permuted}
 use Rattle.graph_model.proofs.PeelLaws.{peeling_ends, peeling_order_is_free, peel_count_order_is_free, core_order_is_free}
 use Rattle.graph_division.specs.Division.{Division, whole}
 use Rattle.reduce_laws.specs.Reducers.{wrapping_sum}
 use Rattle.lone_rounds.specs.RoundCount.{IsRoundCount}
-use Rattle.lone_rounds.specs.DivisionOf.{IsDivisionOf}
+use Rattle.graph_division.specs.DivisionOf.{IsDivisionOf}
 use Rattle.kcore_program.specs.declared.core_state.CoreState.TheVariants.{Stays, Left}
 use Rattle.kcore_program.specs.Steps.{core_steps}
 use Rattle.kcore_program.specs.Tallies.{peeled_state}

@@ -3,7 +3,7 @@ ghost use Rattle.graph_model.specs.Graph.{Graph, IsGraph};
 ghost use Rattle.graph_model.specs.Arcs.{arcs_of};
 ghost use Rattle.graph_model.specs.declared.edge.Way.{Way};
 ghost use Rattle.graph_division.specs.Division.{Division};
-ghost use Rattle.lone_rounds.specs.DivisionOf.{IsDivisionOf};
+ghost use Rattle.graph_division.specs.DivisionOf.{IsDivisionOf};
 ghost use Rattle.kcore_packets.specs.Laws.{FindsCore, SendsTallies};
 
 use kcore_program::Kcore;

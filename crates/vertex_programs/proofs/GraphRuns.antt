@@ -12,7 +12,7 @@ use Rattle.graph_division.specs.ProgramArcs.{IsArcOf, AreArcsOf}
 use Rattle.graph_division.specs.Division.{Division, IsDivision, whole}
 use Rattle.graph_division.proofs.GraphArcs.{graphs_have_arcs}
 use Rattle.reduce_laws.specs.ReducerLaws.{least_laws}
-use Rattle.lone_rounds.specs.DivisionOf.{IsDivisionOf}
+use Rattle.graph_division.specs.DivisionOf.{IsDivisionOf}
 use Rattle.vertex_programs.specs.Labels.{answer_of, label_after, Fits, StartsBelow}
 use Rattle.vertex_programs.specs.Programs.{label_laws, root_starts_below, own_starts_below}
 use Rattle.vertex_programs.specs.LabelPackets.{AreLeast}

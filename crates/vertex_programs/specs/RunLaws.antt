@@ -9,7 +9,7 @@ use Rattle.graph_model.specs.WalkCount.{IsWalkCount}
 use Rattle.graph_division.specs.Division.{Division, IsDivision, whole}
 use Rattle.reduce_laws.specs.Reducers.{least_below}
 use Rattle.lone_rounds.specs.RoundCount.{IsRoundCount}
-use Rattle.lone_rounds.specs.DivisionOf.{IsDivisionOf}
+use Rattle.graph_division.specs.DivisionOf.{IsDivisionOf}
 use Rattle.round_packets.specs.Runs.{Run, state_of}
 use Rattle.round_packets.specs.Packets.{Agree}
 use Rattle.round_packets.specs.RunPackets.{reduce_packet, broadcast_packet}

@@ -5,7 +5,7 @@ ghost use Rattle.graph_model.specs.Arcs.{arcs_of};
 ghost use Rattle.graph_model.specs.declared.edge.Way.{Way};
 ghost use Rattle.graph_model.specs.Least.{Fares, bfs_fares, sssp_fares, cc_fares};
 ghost use Rattle.graph_division.specs.Division.{Division, IsDivision};
-ghost use Rattle.lone_rounds.specs.DivisionOf.{IsDivisionOf};
+ghost use Rattle.graph_division.specs.DivisionOf.{IsDivisionOf};
 ghost use Rattle.vertex_programs.specs.LabelPackets.{AreLeast};
 ghost use Rattle.vertex_programs.specs.RunLaws.{LabelsFindLeast, FindsLeast, LabelsAreSent, SendsLabels, LeastExist};
 
