@@ -1,0 +1,45 @@
+//! The arcs of a local graph, followed in a way.
+ghost use Rattle.std.specs.Prelude.{◌≡◌, ◌<◌, length};
+ghost use Rattle.graph_division.specs.Shares.{proxies_here};
+ghost use Rattle.proxy_graph.specs.Heads.{Lent, heads_from};
+
+use crate::heads::Heads;
+use crate::local_graph::LocalGraph;
+use graph_model::Way;
+use std::marker::Model;
+
+/// The arcs of a local graph, followed in a way, by tail. It lends them and copies nothing.
+#[derive(Drop)]
+pub struct ArcView<'a> {
+    graph: &'a LocalGraph,
+    way: Way,
+}
+
+impl<'a> Model for ArcView<'a> {
+    ghost Value = { Lent };
+
+    ghost view = { λ arcs. record { way = arcs.way; share = arcs.graph.now } };
+}
+
+impl<'a> ArcView<'a> {
+    /// The arcs of this graph, followed in this way.
+    pub(crate) fn new(graph: &'a LocalGraph, way: Way) -> ArcView<'a>
+        ensures { result ≡ record { way = way; share = graph.now } }
+    {
+        ArcView { graph, way }
+    }
+
+    /// The arcs out of a proxy, whose local number is below the number of proxies: out-edges in file
+    /// order and then in-edges in file order, as far as the way takes them.
+    pub fn heads_of(&self, tail: u32) -> Heads<'a>
+        requires { tail < length (proxies_here self.now.share) }
+        ensures { result ≡ heads_from self.now.way self.now.share tail }
+    {
+        let graph = self.graph;
+        match self.way {
+            Way::Outward => graph.out_heads(tail),
+            Way::Inward => graph.in_heads(tail),
+            Way::Both => graph.both_heads(tail),
+        }
+    }
+}

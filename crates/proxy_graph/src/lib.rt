@@ -1,0 +1,19 @@
+//! One host's part of a divided graph: its proxies by local number, what each of them is, and the
+//! host's arcs, lent in both directions.
+#![tactic(auto)]
+
+mod arc_view;
+mod arcs;
+mod counting;
+mod file_order;
+mod heads;
+mod local_graph;
+mod numbering;
+mod side;
+
+pub use arc_view::ArcView;
+pub use heads::Heads;
+pub use local_graph::LocalGraph;
+
+#[cfg(test)]
+mod tests;

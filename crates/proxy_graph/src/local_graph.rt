@@ -1,0 +1,274 @@
+//! One host's local graph.
+ghost use Rattle.std.specs.Prelude.{◌≡◌, ℕ, ◌+◌, ◌<◌, ◌≤◌, false, [], length, slice_get, slice_index, All, IfOk, MatchOption, Some};
+ghost use Rattle.std.specs.List.{slice_index_or};
+ghost use Rattle.list_laws.specs.Among.{is_among};
+ghost use Rattle.graph_model.specs.Graph.{most_nodes, most_edges, IsWithin, IsBySource};
+ghost use Rattle.graph_model.specs.declared.edge.Way.TheVariants.{Outward, Inward, Both};
+ghost use Rattle.graph_division.specs.Lists.{is_readable, is_writable};
+ghost use Rattle.graph_division.specs.Shares.{Share, IsShare, nodes_of, in_file_order, seen, masters_here, proxies_here};
+ghost use Rattle.proxy_graph.specs.Heads.{vertex_at, heads_from};
+
+use crate::arc_view::ArcView;
+use crate::arcs::Arcs;
+use crate::counting::sorted;
+use crate::file_order::{by_source, is_by_source};
+use crate::heads::Heads;
+use crate::numbering::{marked, numbered};
+use crate::side::Side;
+use cusp_rules::Masters;
+use graph_model::{Edge, Way};
+use std::alloc::{AllocError, Global};
+use std::marker::Model;
+
+/// One host's part of a divided graph: the host's edges, and a proxy for each vertex whose master is
+/// here or that is an end of one of these edges. Proxies have local numbers: masters first, then
+/// mirrors, each by rising global number.
+#[derive(Drop)]
+pub struct LocalGraph {
+    host: u16,
+    nodes: u32,
+    masters: Masters,
+    /// The first vertex whose master is here, and how many there are: they lie side by side.
+    first: u32,
+    count: u32,
+    /// The vertices of the mirrors, rising.
+    mirrors: Vec<u32>,
+    /// The arcs out of each proxy, and those into it.
+    out: Arcs,
+    back: Arcs,
+}
+
+impl Model for LocalGraph {
+    ghost use Rattle.graph_division.specs.Shares.{Share};
+
+    ghost Value = { Share };
+
+    ghost use Rattle.proxy_graph.specs.Kept.{share_of, IsKept};
+
+    ghost view = { share_of };
+
+    ghost invariant = { IsKept };
+}
+
+impl LocalGraph {
+    /// The local graph of a host, which is below the number of hosts, with these edges, whose ends are
+    /// below `nodes`, the number of vertices that have masters. There are at most 16,777,216 vertices and
+    /// at most 67,108,864 edges. Edges are kept by source; those of one source stay in their order.
+    pub fn assemble(
+        alloc: Global,
+        host: u16,
+        masters: &Masters,
+        nodes: u32,
+        edges: &[Edge],
+    ) -> Result<LocalGraph, AllocError>
+        requires host { host < masters.now.hosts }
+        requires nodes { nodes ≡ length masters.now.masters }
+        requires few_nodes { nodes ≤ most_nodes }
+        requires few_edges { length edges.now ≤ most_edges }
+        requires within { All (IsWithin nodes) edges.now }
+        ensures { IfOk result (λ graph. graph ≡ record { host = host; hosts = masters.now.hosts; masters = masters.now.masters; edges = in_file_order nodes edges.now }) }
+    {
+        if is_by_source(edges) {
+            return LocalGraph::build(alloc, host, masters, nodes, edges);
+        }
+        let edges = by_source(alloc, nodes, edges)?;
+        LocalGraph::build(alloc, host, masters, nodes, edges.as_slice())
+    }
+
+    /// The local graph of edges whose sources do not fall.
+    fn build(
+        alloc: Global,
+        host: u16,
+        masters: &Masters,
+        nodes: u32,
+        edges: &[Edge],
+    ) -> Result<LocalGraph, AllocError>
+        requires host { host < masters.now.hosts }
+        requires nodes { nodes ≡ length masters.now.masters }
+        requires few_nodes { nodes ≤ most_nodes }
+        requires few_edges { length edges.now ≤ most_edges }
+        requires within { All (IsWithin nodes) edges.now }
+        requires by_source { IsBySource edges.now }
+        ensures { IfOk result (λ graph. graph ≡ record { host = host; hosts = masters.now.hosts; masters = masters.now.masters; edges = edges.now }) }
+    {
+        let (first, end) = masters.range(host);
+        let masters = masters.try_clone(alloc)?;
+        let count = end - first;
+        let mut table = marked(alloc, nodes, edges)?;
+        let mirrors = numbered(alloc, first, count, &mut table)?;
+        let proxies = count + mirrors.len() as u32;
+        let out = sorted(alloc, Side::Out, proxies, &table, edges)?;
+        let back = sorted(alloc, Side::Back, proxies, &table, edges)?;
+        Ok(LocalGraph {
+            host,
+            nodes,
+            masters,
+            first,
+            count,
+            mirrors,
+            out,
+            back,
+        })
+    }
+
+    /// The number of this host.
+    pub fn host(&self) -> u16
+        ensures host { result ≡ self.now.host }
+        ensures facts { IsShare self.now }
+    {
+        self.host
+    }
+
+    /// The number of hosts, from 1 to 64.
+    pub fn hosts(&self) -> u16
+        ensures hosts { result ≡ self.now.hosts }
+        ensures facts { IsShare self.now }
+    {
+        self.masters.hosts()
+    }
+
+    /// The number of vertices of the whole graph.
+    pub fn nodes(&self) -> u32
+        ensures nodes { result ≡ nodes_of self.now }
+        ensures facts { IsShare self.now }
+    {
+        self.nodes
+    }
+
+    /// The number of masters on this host. They have the local numbers below it.
+    pub fn masters(&self) -> u32
+        ensures masters { result ≡ length (masters_here self.now) }
+        ensures among { result ≤ length (proxies_here self.now) }
+    {
+        self.count
+    }
+
+    /// The number of proxies on this host, masters and mirrors. Local numbers are the numbers below it.
+    pub fn proxies(&self) -> u32
+        ensures proxies { result ≡ length (proxies_here self.now) }
+        ensures few { result ≤ nodes_of self.now }
+    {
+        self.count + self.mirrors.len() as u32
+    }
+
+    /// The number of edges of this host.
+    pub fn edges(&self) -> u32
+        ensures { result ≡ length self.now.edges }
+    {
+        self.out.ends.len() as u32
+    }
+
+    /// The vertex of the proxy with this local number.
+    pub fn global(&self, lid: u32) -> u32
+        requires { lid < length (proxies_here self.now) }
+        ensures vertex { slice_get (proxies_here self.now) lid ≡ Some result }
+        ensures known { result < nodes_of self.now }
+    {
+        if lid < self.count {
+            self.first + lid
+        } else {
+            self.mirrors[(lid - self.count) as usize]
+        }
+    }
+
+    /// The host on which the vertex of the proxy with this local number has its master.
+    pub fn master_of(&self, lid: u32) -> u16
+        requires { lid < length (proxies_here self.now) }
+        ensures master { result ≡ slice_index_or self.now.masters (vertex_at self.now lid) 0 }
+        ensures host { result < self.now.hosts }
+    {
+        self.masters.master(self.global(lid))
+    }
+
+    /// Whether the proxy with this local number is the source of an edge of this host.
+    pub fn has_out(&self, lid: u32) -> bool
+        requires { lid < length (proxies_here self.now) }
+        ensures { result ≡ is_readable (seen Outward self.now) self.now.host (vertex_at self.now lid) }
+    {
+        self.out.has(lid)
+    }
+
+    /// Whether the proxy with this local number is the destination of an edge of this host.
+    pub fn has_in(&self, lid: u32) -> bool
+        requires { lid < length (proxies_here self.now) }
+        ensures { result ≡ is_writable (seen Outward self.now) self.now.host (vertex_at self.now lid) }
+    {
+        self.back.has(lid)
+    }
+
+    /// The local number of the vertex `gid`, and None exactly where it has no proxy on this host.
+    pub fn local(&self, gid: u32) -> Option<u32>
+        ensures { MatchOption result (is_among (proxies_here self.now) gid ≡ false) (λ lid. slice_get (proxies_here self.now) lid ≡ Some gid) }
+    {
+        if gid >= self.first && gid - self.first < self.count {
+            return Some(gid - self.first);
+        }
+        match self.mirrors.binary_search(&gid) {
+            Ok(place) => Some(self.count + place as u32),
+            Err(_) => None,
+        }
+    }
+
+    /// Whether the proxy with this local number is the tail of an arc of this host, where edges are
+    /// followed in this way.
+    pub fn readable(&self, way: Way, lid: u32) -> bool
+        requires { lid < length (proxies_here self.now) }
+        ensures { result ≡ is_readable (seen way self.now) self.now.host (vertex_at self.now lid) }
+    {
+        match way {
+            Way::Outward => self.has_out(lid),
+            Way::Inward => self.has_in(lid),
+            Way::Both => self.has_out(lid) || self.has_in(lid),
+        }
+    }
+
+    /// Whether the proxy with this local number is the head of an arc of this host, where edges are
+    /// followed in this way.
+    pub fn writable(&self, way: Way, lid: u32) -> bool
+        requires { lid < length (proxies_here self.now) }
+        ensures { result ≡ is_writable (seen way self.now) self.now.host (vertex_at self.now lid) }
+    {
+        match way {
+            Way::Outward => self.has_in(lid),
+            Way::Inward => self.has_out(lid),
+            Way::Both => self.has_in(lid) || self.has_out(lid),
+        }
+    }
+
+    /// The arcs of this host, where edges are followed in this way.
+    pub fn arcs<'a>(&'a self, way: Way) -> ArcView<'a>
+        ensures way { result.way ≡ way }
+        ensures share { result.share ≡ self.now }
+    {
+        ArcView::new(self, way)
+    }
+
+    /// The out-arcs of a proxy.
+    pub(crate) fn out_heads<'a>(&'a self, tail: u32) -> Heads<'a>
+        requires { tail < length (proxies_here self.now) }
+        ensures { result ≡ heads_from Outward self.now tail }
+    {
+        let (heads, weights) = self.out.of(self.proxies(), tail);
+        Heads::new(heads, weights)
+    }
+
+    /// The in-arcs of a proxy.
+    pub(crate) fn in_heads<'a>(&'a self, tail: u32) -> Heads<'a>
+        requires { tail < length (proxies_here self.now) }
+        ensures { result ≡ heads_from Inward self.now tail }
+    {
+        let (heads, weights) = self.back.of(self.proxies(), tail);
+        Heads::new(heads, weights)
+    }
+
+    /// The out-arcs of a proxy, and then its in-arcs.
+    pub(crate) fn both_heads<'a>(&'a self, tail: u32) -> Heads<'a>
+        requires { tail < length (proxies_here self.now) }
+        ensures { result ≡ heads_from Both self.now tail }
+    {
+        let proxies = self.proxies();
+        let (heads, weights) = self.out.of(proxies, tail);
+        let (next_heads, next_weights) = self.back.of(proxies, tail);
+        Heads::chained(heads, weights, next_heads, next_weights)
+    }
+}
