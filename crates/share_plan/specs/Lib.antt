@@ -1,0 +1,4 @@
+pub mod Starts
+pub mod Owners
+pub mod Plan
+pub mod Laws
