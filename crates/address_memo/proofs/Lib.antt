@@ -1,0 +1,9 @@
+pub mod Filters
+pub mod Mirrors
+pub mod Search
+pub mod Listing
+pub mod Turns
+pub mod Masters
+pub mod Payloads
+pub mod Opening
+pub mod Fitting
