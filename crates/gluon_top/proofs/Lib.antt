@@ -6,3 +6,5 @@ pub mod AnswerLines
 pub mod Loading
 pub mod Sizes
 pub mod Outcomes
+pub mod HostRanges
+pub mod OwnerLines

@@ -10,10 +10,11 @@ use Rattle.gr_reader.specs.declared.fault.GrFault.{GrFault}
 use Rattle.gr_reader.specs.declared.fault.GrFault.TheVariants as reading
 use Rattle.gr_reader.specs.declared.section.Section.TheVariants as section
 use Rattle.gr_reader.specs.Cause as causes
-use Rattle.gr_reader.specs.File.{◌>>=◌, demand, long_at, head_at, rest_at}
+use Rattle.gr_reader.specs.File.{◌>>=◌, demand, long_at, head_at, rest_at, file_at}
 use Rattle.gr_reader.specs.Reading.{Means, Refuses}
 use Rattle.gr_reader.specs.Reach.{TakesAtMost, reach, file_reach}
 use Rattle.gr_reader.proofs.TakingLaws.{TakesAtMost-then}
+use Rattle.edge_owner.specs.declared.rules.Rules.{Rules}
 use Rattle.graph_maker.specs.MadeGraph.{made_graph}
 use Rattle.gr_writer.specs.File.{file_of}
 use Rattle.gluon_top.specs.declared.fault.Fault.{Fault}
@@ -23,9 +24,10 @@ use Rattle.gluon_top.specs.declared.task.Task.TheVariants as task
 use Rattle.gluon_top.specs.Fault.{Cause, Meant, FailedRead, NoMemory, cause_of, cause_of_input}
 use Rattle.gluon_top.specs.Tasks.{task_of, reads_input}
 use Rattle.gluon_top.specs.Distances.{AreLevels}
-use Rattle.gluon_top.specs.Meaning.{Answer, searched, generated, answer_lines, answer_of, graph_of, meaning_of, OfBytes, OfInput, IsText}
+use Rattle.gluon_top.specs.Meaning.{Answer, searched, generated, owned, answer_lines, answer_of, of_input, graph_of, meaning_of, OfBytes, OfInput, IsText}
 use Rattle.gluon_top.specs.Outcome.{IfMeant, Stops, Finds, Leaves, LeftAfter}
-use Rattle.gluon_top.specs.Search.{Loads, FoundDistances, FindsDistances}
+use Rattle.gluon_top.specs.Owners.{owners_text}
+use Rattle.gluon_top.specs.Search.{Loads, LoadsWith, FoundDistances, FindsDistances}
 
 -- what follows from a fault that bytes have, of a fault of the call
 input_stops : (cause : causes.Cause) (P Q : Type 0) → (P → Q) → causes.IfBytes cause P → IfMeant (cause_of_input cause) Q
@@ -199,6 +201,55 @@ pub graph_made : {X : Type 0} (text_of : X → List ℕ) (words : List (List ℕ
 unfolding meaning_of answer_of
 graph_made text_of words size number left after x asked text =
     rw asked (generated (made_graph size number), refl, tt, text)
+
+-- a whole file is refused
+pub file_stops : (left after : Option (List ℕ)) (fault : GrFault) →
+    IfSome left (λ bytes. Means {X = Graph} {Y = Graph} (λ graph. graph) (Err fault) after (file_at bytes)) →
+    IfSome left (λ bytes. Stops (Input fault) (of_input (file_at bytes)))
+file_stops left after fault means = IfSome_then left means (λ bytes refuses.
+    stops fault (file_at bytes) (of_input (file_at bytes)) (λ is. rw is refl) refuses)
+
+-- a whole file is read
+pub file_loads : (left after : Option (List ℕ)) (graph : Graph) →
+    IfSome left (λ bytes. Means {X = Graph} {Y = Graph} (λ graph. graph) (Ok graph) after (file_at bytes)) →
+    IfSome left (λ bytes. IsSomeAnd after (λ rest. of_input (file_at bytes) ≡ Ok (graph, rest)))
+file_loads left None graph means = IfSome_then left means (λ bytes found. absurd found)
+file_loads left (Some rest) graph means = IfSome_then left means (λ bytes found. rw found refl)
+
+-- a fault of a whole file
+pub file_left : (left after : Option (List ℕ)) (fault : GrFault) →
+    TakesAtMost (file_reach {X = Graph} left (Err fault)) left after →
+    IfMeant (cause_of (Input fault)) (IfSome left (λ bytes. LeftAfter bytes (Input fault) after))
+file_left None after fault taken = always (cause_of (Input fault))
+  where
+    always : (cause : Cause) → IfMeant cause (Unit {0})
+    always Meant = tt
+    always FailedRead = tt
+    always NoMemory = tt
+file_left (Some bytes) after fault taken = always (cause_of (Input fault)) taken
+  where
+    always : (cause : Cause) → LeftAfter bytes (Input fault) after → IfMeant cause (LeftAfter bytes (Input fault) after)
+    always Meant p = p
+    always FailedRead p = tt
+    always NoMemory p = tt
+
+-- masters and owners are found
+pub owners_found : {X : Type 0} (text_of : X → List ℕ) (words : List (List ℕ)) (rules : Rules) (hosts : ℕ) (left after : Option (List ℕ)) (x : X) (graph : Graph) → task_of words ≡ Some (task.Owners hosts rules) →
+    text_of x ≡ owners_text rules hosts graph →
+    IfSome left (λ bytes. IsSomeAnd after (λ rest. of_input (file_at bytes) ≡ Ok (graph, rest))) →
+    OfInput words left (λ bytes. Finds text_of (Ok x) after (meaning_of words bytes))
+unfolding meaning_of answer_of
+owners_found text_of words rules hosts left None x graph asked text found = rw asked (IfSome_then left found (λ bytes f. absurd f))
+owners_found text_of words rules hosts left (Some rest) x graph asked text found =
+    rw asked (IfSome_then left found (λ bytes is. (owned rules hosts graph rest, rw is refl, refl, text)))
+
+-- the file has a fault
+pub owners_stop : {X : Type 0} (text_of : X → List ℕ) (words : List (List ℕ)) (rules : Rules) (hosts : ℕ) (left after : Option (List ℕ)) (fault : Fault) → task_of words ≡ Some (task.Owners hosts rules) →
+    IfSome left (λ bytes. Stops fault (of_input (file_at bytes))) →
+    OfInput words left (λ bytes. Finds text_of (Err fault) after (meaning_of words bytes))
+unfolding meaning_of answer_of
+owners_stop text_of words rules hosts left after fault asked stopped =
+    rw asked (IfSome_then left stopped (λ bytes stop. IfMeant-map (cause_of fault) _ _ (λ is. rw is refl) stop))
 
 -- refused words, or want of memory
 pub refused_stops : {X : Type 0} (text_of : X → List ℕ) (words : List (List ℕ)) (left after : Option (List ℕ)) (fault : Fault) → (fault ≡ Words) ⊎ (fault ≡ Memory) → (fault ≡ Words → task_of words ≡ None) →

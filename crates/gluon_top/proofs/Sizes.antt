@@ -1,6 +1,7 @@
 -- The size of a graph that is to be made.
 use Rattle.std.proofs.Common.{◌≡◌, ℕ, ◌≤◌, List, Bool, true, false, cond, Option, Some, None, subst}
 use Rattle.std.specs.Prelude.{option_and_then}
+use Rattle.edge_owner.specs.declared.rules.Rules.{Rules}
 use Rattle.command_words.specs.declared.job.Job.{Job}
 use Rattle.command_words.specs.declared.job.Job.TheVariants.{Bfs, Sssp, Cc, Kcore, Owners, Proxies, Make, Selfrun}
 use Rattle.command_words.specs.Jobs.{job_of}
@@ -22,13 +23,16 @@ no_search : (test : Bool) (root s n : ℕ) → cond test (Some (task.Search root
 no_search true root s n e = cc
 no_search false root s n e = cc
 
+no_owners : (hosts : ℕ) (rules : Rules) (s n : ℕ) → Some (task.Owners hosts rules) ≡ Some (task.Make s n) → ⊥
+no_owners hosts rules s n e = cc
+
 of_job : (o : Option Job) (size number : ℕ) → IsInRange o → option_and_then task_of_job o ≡ Some (task.Make size number) → (1 ≤ size) × (size ≤ 1000000)
 of_job None size number h e = absurd (none_made size number e)
 of_job (Some (Bfs root run)) size number h e = absurd (no_search (is_default run) root size number e)
 of_job (Some (Sssp root run)) size number h e = absurd (none_made size number e)
 of_job (Some (Cc run)) size number h e = absurd (none_made size number e)
 of_job (Some (Kcore k run)) size number h e = absurd (none_made size number e)
-of_job (Some (Owners hosts rules)) size number h e = absurd (none_made size number e)
+of_job (Some (Owners hosts rules)) size number h e = absurd (no_owners hosts rules size number e)
 of_job (Some (Proxies hosts rules way)) size number h e = absurd (none_made size number e)
 of_job (Some (Make s n)) size number h e = subst (λ m. (1 ≤ m) × (m ≤ 1000000)) (same_size s n size number e) h
 of_job (Some (Selfrun s n hosts rules order)) size number h e = absurd (none_made size number e)

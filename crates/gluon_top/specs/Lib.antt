@@ -2,6 +2,8 @@ pub mod Tasks
 pub mod Fault
 pub mod Distances
 pub mod LevelsSteps
+pub mod Numbered
+pub mod Owners
 pub mod Meaning
 pub mod Outcome
 pub mod Answers

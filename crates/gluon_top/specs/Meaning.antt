@@ -3,10 +3,11 @@ use Rattle.std.specs.Prelude.{◌≡◌, ℕ, ◌+◌, Bool, true, false, List, 
 use Rattle.graph_model.specs.Graph.{Graph}
 use Rattle.gr_reader.specs.declared.fault.GrFault.{GrFault}
 use Rattle.gr_reader.specs.declared.head.Head.{Head}
-use Rattle.gr_reader.specs.File.{head_at, rest_at}
+use Rattle.gr_reader.specs.File.{head_at, rest_at, file_at}
 use Rattle.gr_writer.specs.File.{file_of}
 use Rattle.graph_maker.specs.MadeGraph.{made_graph}
 use Rattle.answer_writer.specs.Lines.{answer_line}
+use Rattle.edge_owner.specs.declared.rules.Rules.{Rules}
 use Rattle.gluon_top.specs.declared.fault.Fault.{Fault}
 use Rattle.gluon_top.specs.declared.fault.Fault.TheVariants.{Words, Root, Input}
 use Rattle.gluon_top.specs.declared.task.Task.{Task}
@@ -14,6 +15,8 @@ use Rattle.gluon_top.specs.declared.task.Task.TheVariants as task
 use Rattle.gluon_top.specs.Fault.{fault_line, status_of}
 use Rattle.gluon_top.specs.Tasks.{task_of, reads_input}
 use Rattle.gluon_top.specs.Distances.{AreLevels}
+use Rattle.gluon_top.specs.Numbered.{numbered}
+use Rattle.gluon_top.specs.Owners.{owners_text}
 
 -- what a task comes to
 pub data Answer : Type 0 where
@@ -21,6 +24,8 @@ pub data Answer : Type 0 where
   searched : (root : ℕ) (graph : Graph) (after : List ℕ) → Answer
   -- a made graph
   generated : (graph : Graph) → Answer
+  -- who has each vertex and each edge of the graph of the input, behind whose file these bytes are left
+  owned : (rules : Rules) (hosts : ℕ) (graph : Graph) (after : List ℕ) → Answer
 
 -- a fault of the file is a fault of the call
 abbrev pub of_input : {A : Type 0} → Result A GrFault → Result A Fault
@@ -56,6 +61,9 @@ answer_of (task.Search root) bytes = do
   file ← graph_of root bytes
   Ok (searched root file.0 file.1)
 answer_of (task.Make size number) bytes = Ok (generated (made_graph size number))
+answer_of (task.Owners hosts rules) bytes = do
+  file ← of_input (file_at bytes)
+  Ok (owned rules hosts file.0 file.1)
 
 -- what the words and the bytes ask for, or the first fault
 unfoldable pub meaning_of : List (List ℕ) → List ℕ → Result Answer Fault
@@ -65,8 +73,7 @@ meaning_of words bytes = do
 
 -- the lines of the nodes from v on: each with its distance, or `-` where it has none
 abbrev pub answer_lines : ℕ → List (Option ℕ) → List ℕ
-answer_lines v [] = []
-answer_lines v (distance ∷ distances) = answer_line v distance ++ answer_lines (v + 1) distances
+answer_lines v distances = numbered answer_line v distances
 
 -- the text of a search
 pub record IsSearchText (root : ℕ) (graph : Graph) (text : List ℕ) : Type 0 where
@@ -74,10 +81,11 @@ pub record IsSearchText (root : ℕ) (graph : Graph) (text : List ℕ) : Type 0 
   pub least : AreLevels graph root distances
   pub lines : text ≡ answer_lines 0 distances
 
--- the text of an answer: a line for each node, or a file with weights of four bytes
+-- the text of an answer: a line for each node, a file with weights of four bytes, or masters and owners
 abbrev pub IsText : Answer → List ℕ → Type 0
 IsText (searched root graph after) text = IsSearchText root graph text
 IsText (generated graph) text = text ≡ file_of 4 graph
+IsText (owned rules hosts graph after) text = text ≡ owners_text rules hosts graph
 
 -- the status and the text of a fault, or 0 and the text of the answer
 abbrev pub MeansText : Result Answer Fault → ℕ → List ℕ → Type 0

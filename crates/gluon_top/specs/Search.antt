@@ -10,6 +10,11 @@ abbrev pub Loads : Result Graph Fault → Option (List ℕ) → Result (Graph ×
 Loads (Ok graph) left meaning = IsSomeAnd left (λ rest. meaning ≡ Ok (graph, rest))
 Loads (Err fault) left meaning = Stops fault meaning
 
+-- The same of what a call returned with its graph, seen by `view`.
+abbrev pub LoadsWith : {X : Type 0} → (X → Graph) → Result X Fault → Option (List ℕ) → Result (Graph × List ℕ) Fault → Type 0
+LoadsWith view (Ok x) left meaning = IsSomeAnd left (λ rest. meaning ≡ Ok (view x, rest))
+LoadsWith view (Err fault) left meaning = Stops fault meaning
+
 -- the graph that is meant, what the source has left behind it, and the distances in it
 pub record FoundDistances (root : ℕ) (distances : List (Option ℕ)) (left : Option (List ℕ)) (meaning : Result (Graph × List ℕ) Fault) : Type 0 where
   pub graph : Graph

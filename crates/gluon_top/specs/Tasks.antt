@@ -42,7 +42,7 @@ task_of_job (Make size number) = Some (task.Make size number)
 task_of_job (Sssp root run) = None
 task_of_job (Cc run) = None
 task_of_job (Kcore k run) = None
-task_of_job (Owners hosts rules) = None
+task_of_job (Owners hosts rules) = Some (task.Owners hosts rules)
 task_of_job (Proxies hosts rules way) = None
 task_of_job (Selfrun size number hosts rules order) = None
 
@@ -54,4 +54,5 @@ task_of words = option_and_then task_of_job (job_of words)
 abbrev pub reads_input : Option Task → Bool
 reads_input (Some (task.Search root)) = true
 reads_input (Some (task.Make size number)) = false
+reads_input (Some (task.Owners hosts rules)) = true
 reads_input None = false

@@ -8,11 +8,13 @@ ghost use Rattle.gluon_top.specs.Outcome.{Finds, WordsRefused, Counts, IfMeant, 
 ghost use Rattle.gluon_top.specs.Answers.{text_of, AreFew};
 
 use crate::fault::Fault;
+use crate::owners::owners;
 use crate::search::search;
 use crate::task::{Task, read_task};
 use graph_maker::make;
 use graph_model::EdgeList;
 use io_edge::Source;
+use share_plan::SharePlan;
 use std::alloc::Global;
 
 /// What a task came to.
@@ -22,6 +24,8 @@ pub(crate) enum Answers {
     Distances(Vec<Option<u32>>),
     /// A made graph.
     Made(EdgeList),
+    /// A graph, and which host has each vertex and each edge.
+    Owned(EdgeList, SharePlan),
 }
 
 /// What the task that the words ask for comes to, over the graph that the source gives where it reads one; or
@@ -44,5 +48,9 @@ pub(crate) fn answer<S: Source>(
     match read_task(alloc, words)? {
         Task::Search { root } => Ok(Answers::Distances(search(alloc, root, source)?)),
         Task::Make { size, number } => Ok(Answers::Made(make(alloc, size, number)?)),
+        Task::Owners { hosts, rules } => {
+            let owned = owners(alloc, hosts, rules, source)?;
+            Ok(Answers::Owned(owned.0, owned.1))
+        }
     }
 }

@@ -6,7 +6,7 @@ ghost use Rattle.gluon_top.specs.Tasks.{is_default, task_of_job, task_of};
 use crate::fault::Fault;
 use command_words::{Job, RunWords, WordsFault, read_words};
 use cusp_rules::MasterRule;
-use edge_owner::OwnerRule;
+use edge_owner::{OwnerRule, Rules};
 use graph_model::Way;
 use std::alloc::Global;
 
@@ -24,6 +24,13 @@ pub enum Task {
         size: u32,
         /// The number that draws the edges.
         number: u64,
+    },
+    /// Tell the master of each vertex and the owner of each edge.
+    Owners {
+        /// The number of hosts, from 1 to 64.
+        hosts: u16,
+        /// The rules by which the graph is shared out.
+        rules: Rules,
     },
 }
 
@@ -50,6 +57,7 @@ fn task_now(job: Job) -> Option<Task>
     match job {
         Job::Bfs { root, run } if is_default(&run) => Some(Task::Search { root }),
         Job::Make { size, number } => Some(Task::Make { size, number }),
+        Job::Owners { hosts, rules } => Some(Task::Owners { hosts, rules }),
         _ => None,
     }
 }

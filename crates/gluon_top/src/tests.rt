@@ -307,3 +307,39 @@ fn a_file_cut_at_any_byte_has_one_line(rt: HostRuntime) -> Result<(), Fail> {
     }
     Ok(())
 }
+
+#[test]
+fn masters_and_owners_are_told(rt: HostRuntime) -> Result<(), Fail> {
+    let alloc = rt.alloc();
+    let diamond = file(alloc, &DIAMOND_LONGS, &DIAMOND_WORDS, 80)?;
+    expect_run(
+        &rt,
+        alloc,
+        &["owners", "--hosts", "2"],
+        diamond,
+        0,
+        "master 0 0\nmaster 1 1\nmaster 2 1\nmaster 3 1\nedge 0 0 1 0\nedge 1 0 2 0\nedge 2 1 3 1\nedge 3 2 3 1\n",
+    )?;
+    // A cycle of four vertices, whose hosts stand two in a row.
+    let cycle = file(alloc, &[1, 0, 4, 4, 1, 2, 3, 4], &[1, 2, 3, 0], 80)?;
+    expect_run(
+        &rt,
+        alloc,
+        &["owners", "--hosts", "4", "--owner", "cartesian"],
+        cycle,
+        0,
+        "master 0 0\nmaster 1 1\nmaster 2 2\nmaster 3 3\nedge 0 0 1 1\nedge 1 1 2 0\nedge 2 2 3 3\nedge 3 3 0 2\n",
+    )?;
+    let none = file(alloc, &[1, 0, 0, 0], &[], 32)?;
+    expect_run(&rt, alloc, &["owners"], none, 0, "")?;
+    let falling = file(alloc, &[1, 0, 2, 2, 2, 1], &[], 100)?;
+    expect_run(
+        &rt,
+        alloc,
+        &["owners"],
+        falling,
+        3,
+        "fault: index 1 falls\n",
+    )?;
+    Ok(())
+}

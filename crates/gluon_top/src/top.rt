@@ -133,6 +133,7 @@ fn write_text<K: Sink>(sink: &mut K, outcome: &Result<Answers, Fault>) -> Result
     match outcome {
         Ok(Answers::Distances(distances)) => write_lines(sink, Lines::Answers(distances)),
         Ok(Answers::Made(graph)) => write_graph(sink, graph, 4),
+        Ok(Answers::Owned(list, plan)) => write_lines(sink, Lines::Owners(list, plan)),
         Err(fault) => write_lines(sink, Lines::Fault(*fault)),
     }
 }

@@ -1,10 +1,11 @@
 use Rattle.std.proofs.Common.{◌≡◌, ◌∙◌, ap, ℕ, List, map, string_bytes, Some, Err, refl}
 use Rattle.std.proofs.lemmas.Result.{err_from_is_err_and}
 use Rattle.gluon_top.specs.Answers.{text_of}
-use Rattle.gluon_top.specs.declared.answers.Answers.TheVariants.{Distances, Made}
+use Rattle.gluon_top.specs.declared.answers.Answers.TheVariants.{Distances, Made, Owned}
 use Rattle.gr_writer.specs.File.{file_of}
 use Rattle.gluon_top.proofs.Sizes.{size_in_range}
-use Rattle.gluon_top.proofs.Loading.{refused_stops, search_stops, distances_found, graph_made}
+use Rattle.gluon_top.proofs.HostRanges.{hosts_in_range}
+use Rattle.gluon_top.proofs.Loading.{refused_stops, search_stops, distances_found, graph_made, owners_found, owners_stop}
 use Rattle.gluon_top.proofs.answers.answer.Goals as goal
 
 pub returns-in_err-root-clause-means : goal.returns-in_err-root-clause-means
@@ -36,3 +37,19 @@ make-requires-clause-some g c =
 pub make-requires-clause-few : goal.make-requires-clause-few
 make-requires-clause-few g c =
     (size_in_range (map string_bytes c.args.words.now) c.in-Make.size c.in-Make.number (c.in_ok-root.ensures.task ∙ ap (λ task. Some task) c.in-Make.is)).1
+
+pub owners-requires : goal.owners-requires
+owners-requires g c =
+    hosts_in_range (map string_bytes c.args.words.now) c.in-Owners.hosts c.in-Owners.rules (c.in_ok-root.ensures.task ∙ ap (λ task. Some task) c.in-Owners.is)
+
+pub returns-in_err-owned-in-Owners-clause-means : goal.returns-in_err-owned-in-Owners-clause-means
+returns-in_err-owned-in-Owners-clause-means g c =
+    let p = err_from_is_err_and c.from_residual-in_err-owned-in-Owners.result c.from_residual-in_err-owned-in-Owners.ensures.1 in
+    rw (p.1, p.2) (owners_stop text_of (map string_bytes c.args.words.now) c.in-Owners.rules c.in-Owners.hosts (g.S.Source.left c.args.source.now) (g.S.Source.left c.owners.new.source) c.in_err-owned-in-Owners.field-0.0
+    (c.in_ok-root.ensures.task ∙ ap (λ task. Some task) c.in-Owners.is) c.in_err-owned-in-Owners.ensures.means)
+
+pub returns-in_ok-owned-in-Owners-clause-means : goal.returns-in_ok-owned-in-Owners-clause-means
+returns-in_ok-owned-in-Owners-clause-means g c =
+    owners_found text_of (map string_bytes c.args.words.now) c.in-Owners.rules c.in-Owners.hosts (g.S.Source.left c.args.source.now) (g.S.Source.left c.owners.new.source)
+    (Owned c.in_ok-owned-in-Owners.owned.0 c.in_ok-owned-in-Owners.owned.1) c.in_ok-owned-in-Owners.owned.0
+    (c.in_ok-root.ensures.task ∙ ap (λ task. Some task) c.in-Owners.is) c.in_ok-owned-in-Owners.ensures.text c.in_ok-owned-in-Owners.ensures.means

@@ -1,0 +1,174 @@
+-- The number of hosts that words ask for.
+use Rattle.std.proofs.Common.{◌≡◌, ℕ, ◌≤◌, Bool, true, false, cond, refl, Option, Some, None, subst, arith}
+use Rattle.std.specs.Prelude.{option_and_then, ◌&&◌, nat_le, codes, is_some, List, [], ◌∷◌, if◌then◌else◌}
+use Rattle.std.specs.Str.{bytes_eq}
+use Rattle.std.specs.Str.Parse.{digits_value}
+use Rattle.std.proofs.lemmas.Bool.{leb-true, and_parts}
+use Rattle.graph_model.specs.declared.edge.Way.TheVariants.{Outward, Both}
+use Rattle.cusp_rules.specs.Hosts.{IsHostCount}
+use Rattle.edge_owner.specs.declared.rules.Rules.{Rules}
+use Rattle.command_words.specs.declared.job.Job.{Job}
+use Rattle.command_words.specs.declared.job.Job.TheVariants as job
+use Rattle.command_words.specs.Items.{Text, job_label, given, items_of}
+use Rattle.command_words.specs.Values.{number_needed, number_or, way_of}
+use Rattle.command_words.specs.Jobs.{Said, greatest, run_said, hosts_said, rules_said, size_said, made_number_said, order_said, has_only, options_of, job_name_of, job_named, job_if_only, job_said, job_of}
+use Rattle.gluon_top.specs.declared.task.Task.{Task}
+use Rattle.gluon_top.specs.declared.task.Task.TheVariants as task
+use Rattle.gluon_top.specs.Tasks.{is_default, task_of_job, task_of}
+
+-- a job that is shared out has hosts
+abbrev HasHosts : Option Job → Type 0
+HasHosts (Some (job.Owners hosts rules)) = IsHostCount hosts
+HasHosts (Some (job.Proxies hosts rules way)) = IsHostCount hosts
+HasHosts _ = Unit {0}
+
+-- what comes out of a test passed it
+passed : {A : Type 0} (test : Bool) (x y : A) → cond test (Some x) None ≡ Some y → (test ≡ true) × (x ≡ y)
+passed true x y e = (refl, cc)
+passed false x y e = cc
+
+-- a number of hosts that is said, or is not
+hosts_counted : (text : Option Text) (n : ℕ) → number_or 4 1 64 text ≡ Some n → IsHostCount n
+hosts_counted None n e = let four : 4 ≡ n = cc in record { some_host = omega arith; few_hosts = omega arith }
+hosts_counted (Some text) n e =
+    let value : ℕ = digits_value 10 text in
+    let p = passed _ value n e in
+    let low = and_parts _ (nat_le value 64) p.0 in
+    let high = and_parts _ (nat_le 1 value) low.0 in
+    record {
+      some_host = omega (arith, p.1, leb-true 1 value high.1);
+      few_hosts = omega (arith, p.1, leb-true value 64 low.1);
+    }
+
+-- what comes of each, comes of any
+each_has : {A : Type 0} (f : A → Option Job) (o : Option A) → ((x : A) → o ≡ Some x → HasHosts (f x)) → HasHosts (option_and_then f o)
+each_has f None each = tt
+each_has f (Some x) each = each x refl
+
+if_only : (test : Bool) (o : Option Job) → HasHosts o → HasHosts (cond test o None)
+if_only true o h = h
+if_only false o h = tt
+
+never : false ≡ true → ⊥
+never e = cc
+
+-- what is there
+abbrev known : {N : Type 0} (o : Option N) → is_some o ≡ true → N
+known (Some name) there = name
+known None there = absurd (never there)
+
+-- the name of the first text that is the word
+abbrev first_named : {N : Type 0} → Text → List (Text × N) → Option N
+first_named word [] = None
+first_named word (name ∷ names) = if bytes_eq word name.0 then Some name.1 else first_named word names
+
+-- each name's job has hosts
+abbrev EachHas : {N : Type 0} → (N → Option Job) → List (Text × N) → Type 0
+EachHas job_of_name [] = Unit {0}
+EachHas job_of_name (name ∷ names) = HasHosts (job_of_name name.1) × EachHas job_of_name names
+
+-- so has the job of the name that is found
+first_has : {N : Type 0} (job_of_name : N → Option Job) (word : Text) (names : List (Text × N)) → EachHas job_of_name names → HasHosts (option_and_then job_of_name (first_named word names))
+first_has job_of_name word [] each = tt
+first_has {N} job_of_name word (name ∷ names) each = picked (bytes_eq word name.0) each.0 (first_has job_of_name word names each.1)
+  where
+    picked : (test : Bool) → HasHosts (job_of_name name.1) → HasHosts (option_and_then job_of_name (first_named word names)) → HasHosts (option_and_then job_of_name (if test then Some name.1 else first_named word names))
+    picked true first later = first
+    picked false first later = later
+
+-- a job of two parts that are said
+two : {A B : Type 0} (f : A → B → Job) → ((a : A) (b : B) → HasHosts (Some (f a b))) → (o : Option A) (p : Option B) → HasHosts (option_and_then (λ a. option_and_then (λ b. Some (f a b)) p) o)
+two f each o p = each_has (λ a. option_and_then (λ b. Some (f a b)) p) o (λ a is. each_has (λ b. Some (f a b)) p (λ b same. each a b))
+
+-- the job of a name, where no other options are said
+named_has : {N : Type 0} (options : N → List Text) (named : N → Said → Option Job) (say : Said) (name : N) → HasHosts (named name say) → HasHosts (if has_only (options name) say then named name say else None)
+named_has options named say name has = if_only (has_only (options name) say) (named name say) has
+
+module _ (say : Said) where
+  owners_have : HasHosts (option_and_then (λ hosts. option_and_then (λ rules. Some (job.Owners hosts rules)) (rules_said say)) (hosts_said say))
+  owners_have =
+      each_has (λ hosts. option_and_then (λ rules. Some (job.Owners hosts rules)) (rules_said say)) (hosts_said say) (λ hosts is.
+      each_has (λ rules. Some (job.Owners hosts rules)) (rules_said say) (λ rules same. hosts_counted (say (codes "hosts")) hosts is))
+
+  proxies_have : HasHosts (option_and_then (λ hosts. option_and_then (λ rules. option_and_then (λ way. Some (job.Proxies hosts rules way)) (way_of Outward (say (codes "way")))) (rules_said say)) (hosts_said say))
+  proxies_have =
+      each_has (λ hosts. option_and_then (λ rules. option_and_then (λ way. Some (job.Proxies hosts rules way)) (way_of Outward (say (codes "way")))) (rules_said say)) (hosts_said say) (λ hosts is.
+      two (λ rules way. job.Proxies hosts rules way) (λ rules way. hosts_counted (say (codes "hosts")) hosts is) (rules_said say) (way_of Outward (say (codes "way"))))
+
+  selfrun_has : (size number : ℕ) → HasHosts (option_and_then (λ hosts. option_and_then (λ rules. option_and_then (λ order. Some (job.Selfrun size number hosts rules order)) (order_said say)) (rules_said say)) (hosts_said say))
+  selfrun_has size number =
+      each_has (λ hosts. option_and_then (λ rules. option_and_then (λ order. Some (job.Selfrun size number hosts rules order)) (order_said say)) (rules_said say)) (hosts_said say) (λ hosts is.
+      two (λ rules order. job.Selfrun size number hosts rules order) (λ rules order. tt) (rules_said say) (order_said say))
+
+-- the job of the name that a word names
+word_has_hosts : (say : Said) (word : Text) → HasHosts (option_and_then (job_if_only say) (job_name_of word))
+word_has_hosts say word =
+    first_has (job_if_only say) word
+    ((codes "bfs", known (job_name_of (codes "bfs")) refl) ∷ (codes "sssp", known (job_name_of (codes "sssp")) refl)
+    ∷ (codes "cc", known (job_name_of (codes "cc")) refl) ∷ (codes "kcore", known (job_name_of (codes "kcore")) refl)
+    ∷ (codes "owners", known (job_name_of (codes "owners")) refl) ∷ (codes "proxies", known (job_name_of (codes "proxies")) refl)
+    ∷ (codes "make", known (job_name_of (codes "make")) refl) ∷ (codes "selfrun", known (job_name_of (codes "selfrun")) refl) ∷ []) (
+      named_has options_of job_named say (known (job_name_of (codes "bfs")) refl) (two job.Bfs (λ root run. tt) (number_needed 0 greatest (say (codes "root"))) (run_said Outward say)),
+      (
+        named_has options_of job_named say (known (job_name_of (codes "sssp")) refl) (two job.Sssp (λ root run. tt) (number_needed 0 greatest (say (codes "root"))) (run_said Outward say)),
+        (
+          named_has options_of job_named say (known (job_name_of (codes "cc")) refl) (each_has (λ run. Some (job.Cc run)) (run_said Both say) (λ run is. tt)),
+          (
+            named_has options_of job_named say (known (job_name_of (codes "kcore")) refl) (two job.Kcore (λ k run. tt) (number_needed 0 greatest (say (codes "k"))) (run_said Outward say)),
+            (
+              named_has options_of job_named say (known (job_name_of (codes "owners")) refl) (owners_have say),
+              (
+                named_has options_of job_named say (known (job_name_of (codes "proxies")) refl) (proxies_have say),
+                (
+                  named_has options_of job_named say (known (job_name_of (codes "make")) refl) (two job.Make (λ size number. tt) (size_said say) (made_number_said say)),
+                  (
+                    named_has options_of job_named say (known (job_name_of (codes "selfrun")) refl)
+                        (each_has (λ size. option_and_then (λ number. option_and_then (λ hosts. option_and_then (λ rules. option_and_then (λ order. Some (job.Selfrun size number hosts rules order)) (order_said say)) (rules_said say)) (hosts_said say)) (made_number_said say)) (size_said say) (λ size is.
+                        each_has (λ number. option_and_then (λ hosts. option_and_then (λ rules. option_and_then (λ order. Some (job.Selfrun size number hosts rules order)) (order_said say)) (rules_said say)) (hosts_said say)) (made_number_said say) (λ number same. selfrun_has say size number))),
+                    tt,
+                  ),
+                ),
+              ),
+            ),
+          ),
+        ),
+      ),
+    )
+
+-- the job of words
+words_have_hosts : (words : List Text) → HasHosts (job_of words)
+words_have_hosts words =
+    each_has (λ items. job_said (given items)) (items_of words) (λ items is.
+    each_has (λ word. option_and_then (job_if_only (given items)) (job_name_of word)) (given items job_label) (λ word is. word_has_hosts (given items) word))
+
+-- no task at all
+abbrev none : Option Task
+none = None
+
+no_task : (hosts : ℕ) (rules : Rules) → none ≡ Some (task.Owners hosts rules) → ⊥
+no_task hosts rules e = cc
+
+no_search : (test : Bool) (root hosts : ℕ) (rules : Rules) → cond test (Some (task.Search root)) None ≡ Some (task.Owners hosts rules) → ⊥
+no_search true root hosts rules e = cc
+no_search false root hosts rules e = cc
+
+no_make : (size number hosts : ℕ) (rules : Rules) → Some (task.Make size number) ≡ Some (task.Owners hosts rules) → ⊥
+no_make size number hosts rules e = cc
+
+same_hosts : (m n : ℕ) (rules others : Rules) → Some (task.Owners m rules) ≡ Some (task.Owners n others) → m ≡ n
+same_hosts m n rules others e = cc
+
+of_job : (o : Option Job) (hosts : ℕ) (rules : Rules) → HasHosts o → option_and_then task_of_job o ≡ Some (task.Owners hosts rules) → IsHostCount hosts
+of_job None hosts rules h e = absurd (no_task hosts rules e)
+of_job (Some (job.Bfs root run)) hosts rules h e = absurd (no_search (is_default run) root hosts rules e)
+of_job (Some (job.Sssp root run)) hosts rules h e = absurd (no_task hosts rules e)
+of_job (Some (job.Cc run)) hosts rules h e = absurd (no_task hosts rules e)
+of_job (Some (job.Kcore k run)) hosts rules h e = absurd (no_task hosts rules e)
+of_job (Some (job.Owners n others)) hosts rules h e = subst IsHostCount (same_hosts n hosts others rules e) h
+of_job (Some (job.Proxies n others way)) hosts rules h e = absurd (no_task hosts rules e)
+of_job (Some (job.Make size number)) hosts rules h e = absurd (no_make size number hosts rules e)
+of_job (Some (job.Selfrun size number n others order)) hosts rules h e = absurd (no_task hosts rules e)
+
+-- masters and owners are told of 1 to 64 hosts
+pub hosts_in_range : (words : List (List ℕ)) (hosts : ℕ) (rules : Rules) → task_of words ≡ Some (task.Owners hosts rules) → IsHostCount hosts
+hosts_in_range words hosts rules e = of_job (job_of words) hosts rules (words_have_hosts words) e

@@ -1,0 +1,3 @@
+pub mod RoomsLaws
+pub mod SharesMade
+pub mod BuildLaws
