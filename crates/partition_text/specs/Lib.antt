@@ -1,0 +1,4 @@
+pub mod Hosts
+pub mod Lists
+pub mod Text
+pub mod Agreed
