@@ -4,6 +4,7 @@ use Rattle.std.specs.Prelude.{option_and_then, ◌&&◌, nat_le, codes, is_some,
 use Rattle.std.specs.Str.{bytes_eq}
 use Rattle.std.specs.Str.Parse.{digits_value}
 use Rattle.std.proofs.lemmas.Bool.{leb-true, and_parts}
+use Rattle.graph_model.specs.declared.edge.Way.{Way}
 use Rattle.graph_model.specs.declared.edge.Way.TheVariants.{Outward, Both}
 use Rattle.cusp_rules.specs.Hosts.{IsHostCount}
 use Rattle.edge_owner.specs.declared.rules.Rules.{Rules}
@@ -141,34 +142,31 @@ words_have_hosts words =
     each_has (λ items. job_said (given items)) (items_of words) (λ items is.
     each_has (λ word. option_and_then (job_if_only (given items)) (job_name_of word)) (given items job_label) (λ word is. word_has_hosts (given items) word))
 
--- no task at all
-abbrev none : Option Task
-none = None
+-- a task over a graph that is shared out has hosts
+abbrev TaskHasHosts : Option Task → Type 0
+TaskHasHosts (Some (task.Owners hosts rules)) = IsHostCount hosts
+TaskHasHosts (Some (task.Proxies hosts rules way)) = IsHostCount hosts
+TaskHasHosts _ = Unit {0}
 
-no_task : (hosts : ℕ) (rules : Rules) → none ≡ Some (task.Owners hosts rules) → ⊥
-no_task hosts rules e = cc
+of_search : (test : Bool) (root : ℕ) → TaskHasHosts (cond test (Some (task.Search root)) None)
+of_search true root = tt
+of_search false root = tt
 
-no_search : (test : Bool) (root hosts : ℕ) (rules : Rules) → cond test (Some (task.Search root)) None ≡ Some (task.Owners hosts rules) → ⊥
-no_search true root hosts rules e = cc
-no_search false root hosts rules e = cc
-
-no_make : (size number hosts : ℕ) (rules : Rules) → Some (task.Make size number) ≡ Some (task.Owners hosts rules) → ⊥
-no_make size number hosts rules e = cc
-
-same_hosts : (m n : ℕ) (rules others : Rules) → Some (task.Owners m rules) ≡ Some (task.Owners n others) → m ≡ n
-same_hosts m n rules others e = cc
-
-of_job : (o : Option Job) (hosts : ℕ) (rules : Rules) → HasHosts o → option_and_then task_of_job o ≡ Some (task.Owners hosts rules) → IsHostCount hosts
-of_job None hosts rules h e = absurd (no_task hosts rules e)
-of_job (Some (job.Bfs root run)) hosts rules h e = absurd (no_search (is_default run) root hosts rules e)
-of_job (Some (job.Sssp root run)) hosts rules h e = absurd (no_task hosts rules e)
-of_job (Some (job.Cc run)) hosts rules h e = absurd (no_task hosts rules e)
-of_job (Some (job.Kcore k run)) hosts rules h e = absurd (no_task hosts rules e)
-of_job (Some (job.Owners n others)) hosts rules h e = subst IsHostCount (same_hosts n hosts others rules e) h
-of_job (Some (job.Proxies n others way)) hosts rules h e = absurd (no_task hosts rules e)
-of_job (Some (job.Make size number)) hosts rules h e = absurd (no_make size number hosts rules e)
-of_job (Some (job.Selfrun size number n others order)) hosts rules h e = absurd (no_task hosts rules e)
+of_job : (o : Option Job) → HasHosts o → TaskHasHosts (option_and_then task_of_job o)
+of_job None h = tt
+of_job (Some (job.Bfs root run)) h = of_search (is_default run) root
+of_job (Some (job.Sssp root run)) h = tt
+of_job (Some (job.Cc run)) h = tt
+of_job (Some (job.Kcore k run)) h = tt
+of_job (Some (job.Owners hosts rules)) h = h
+of_job (Some (job.Proxies hosts rules way)) h = h
+of_job (Some (job.Make size number)) h = tt
+of_job (Some (job.Selfrun size number hosts rules order)) h = tt
 
 -- masters and owners are told of 1 to 64 hosts
 pub hosts_in_range : (words : List (List ℕ)) (hosts : ℕ) (rules : Rules) → task_of words ≡ Some (task.Owners hosts rules) → IsHostCount hosts
-hosts_in_range words hosts rules e = of_job (job_of words) hosts rules (words_have_hosts words) e
+hosts_in_range words hosts rules e = subst TaskHasHosts e (of_job (job_of words) (words_have_hosts words))
+
+-- and so are proxies and lists
+pub proxy_hosts_in_range : (words : List (List ℕ)) (hosts : ℕ) (rules : Rules) (way : Way) → task_of words ≡ Some (task.Proxies hosts rules way) → IsHostCount hosts
+proxy_hosts_in_range words hosts rules way e = subst TaskHasHosts e (of_job (job_of words) (words_have_hosts words))

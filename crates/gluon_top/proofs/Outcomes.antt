@@ -256,6 +256,7 @@ no_input_fault words None is none faulty = let three : 2 ≡ 3 = rw is at faulty
 no_input_fault words (Some (task.Search root)) is none faulty = cc
 no_input_fault words (Some (task.Make size number)) is none faulty = absurd (rw is at faulty)
 no_input_fault words (Some (task.Owners hosts rules)) is none faulty = cc
+no_input_fault words (Some (task.Proxies hosts rules way)) is none faulty = cc
 
 -- the same of the input, as far as words ask for it and it is told
 pub taken_of_input : {X : Type 0} (text_of : X → List ℕ) (words : List (List ℕ)) (left left' held held' : Option (List ℕ)) (fs fs' fk fk' status : ℕ) (outcome : Result X Fault) →

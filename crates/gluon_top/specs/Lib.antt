@@ -4,6 +4,7 @@ pub mod Distances
 pub mod LevelsSteps
 pub mod Numbered
 pub mod Owners
+pub mod Divided
 pub mod Meaning
 pub mod Outcome
 pub mod Answers

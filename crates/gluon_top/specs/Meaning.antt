@@ -1,6 +1,8 @@
 -- What the words and the bytes of the input together mean: a status and a text.
 use Rattle.std.specs.Prelude.{◌≡◌, ℕ, ◌+◌, Bool, true, false, List, [], ◌∷◌, ◌++◌, Option, Some, None, IfSome, Result, Ok, Err, nat_lt, if◌then◌else◌}
 use Rattle.graph_model.specs.Graph.{Graph}
+use Rattle.graph_model.specs.declared.edge.Way.{Way}
+use Rattle.graph_division.specs.Shares.{Share}
 use Rattle.gr_reader.specs.declared.fault.GrFault.{GrFault}
 use Rattle.gr_reader.specs.declared.head.Head.{Head}
 use Rattle.gr_reader.specs.File.{head_at, rest_at, file_at}
@@ -8,6 +10,8 @@ use Rattle.gr_writer.specs.File.{file_of}
 use Rattle.graph_maker.specs.MadeGraph.{made_graph}
 use Rattle.answer_writer.specs.Lines.{answer_line}
 use Rattle.edge_owner.specs.declared.rules.Rules.{Rules}
+use Rattle.partition_build.specs.Meant.{shared}
+use Rattle.partition_text.specs.Text.{partition_text}
 use Rattle.gluon_top.specs.declared.fault.Fault.{Fault}
 use Rattle.gluon_top.specs.declared.fault.Fault.TheVariants.{Words, Root, Input}
 use Rattle.gluon_top.specs.declared.task.Task.{Task}
@@ -26,6 +30,8 @@ pub data Answer : Type 0 where
   generated : (graph : Graph) → Answer
   -- who has each vertex and each edge of the graph of the input, behind whose file these bytes are left
   owned : (rules : Rules) (hosts : ℕ) (graph : Graph) (after : List ℕ) → Answer
+  -- what hosts hold of the graph of the input, whose edges are followed in a way, behind whose file these bytes are left
+  divided : (way : Way) (shares : List Share) (after : List ℕ) → Answer
 
 -- a fault of the file is a fault of the call
 abbrev pub of_input : {A : Type 0} → Result A GrFault → Result A Fault
@@ -64,6 +70,9 @@ answer_of (task.Make size number) bytes = Ok (generated (made_graph size number)
 answer_of (task.Owners hosts rules) bytes = do
   file ← of_input (file_at bytes)
   Ok (owned rules hosts file.0 file.1)
+answer_of (task.Proxies hosts rules way) bytes = do
+  file ← of_input (shared rules hosts (file_at bytes))
+  Ok (divided way file.0 file.1)
 
 -- what the words and the bytes ask for, or the first fault
 unfoldable pub meaning_of : List (List ℕ) → List ℕ → Result Answer Fault
@@ -81,11 +90,13 @@ pub record IsSearchText (root : ℕ) (graph : Graph) (text : List ℕ) : Type 0 
   pub least : AreLevels graph root distances
   pub lines : text ≡ answer_lines 0 distances
 
--- the text of an answer: a line for each node, a file with weights of four bytes, or masters and owners
+-- the text of an answer: a line for each node, a file with weights of four bytes, masters and owners, or proxies and
+-- lists
 abbrev pub IsText : Answer → List ℕ → Type 0
 IsText (searched root graph after) text = IsSearchText root graph text
 IsText (generated graph) text = text ≡ file_of 4 graph
 IsText (owned rules hosts graph after) text = text ≡ owners_text rules hosts graph
+IsText (divided way shares after) text = text ≡ partition_text way shares
 
 -- the status and the text of a fault, or 0 and the text of the answer
 abbrev pub MeansText : Result Answer Fault → ℕ → List ℕ → Type 0

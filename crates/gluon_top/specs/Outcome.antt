@@ -8,7 +8,7 @@ use Rattle.graph_model.specs.Graph.{Graph}
 use Rattle.gluon_top.specs.declared.fault.Fault.{Fault}
 use Rattle.gluon_top.specs.declared.fault.Fault.TheVariants.{Words, Root, Input, Memory}
 use Rattle.gluon_top.specs.Fault.{Cause, Meant, FailedRead, NoMemory, cause_of, fault_line, status_of}
-use Rattle.gluon_top.specs.Meaning.{Answer, searched, generated, owned, IsText, Meaning, OfInput}
+use Rattle.gluon_top.specs.Meaning.{Answer, searched, generated, owned, divided, IsText, Meaning, OfInput}
 
 -- this holds where words and bytes are the cause
 abbrev pub IfMeant : Cause → Type 0 → Type 0
@@ -25,6 +25,7 @@ abbrev pub Leaves : Answer → Option (List ℕ) → Type 0
 Leaves (searched root graph after) left = left ≡ Some after
 Leaves (generated graph) left = Unit {0}
 Leaves (owned rules hosts graph after) left = left ≡ Some after
+Leaves (divided way shares after) left = left ≡ Some after
 
 -- The answer, seen by its text, is the one that is meant, and what the source has left is what its file does not
 -- use; or the fault is what is meant, as far as no read failed and memory sufficed.

@@ -10,8 +10,8 @@ abbrev pub Loads : Result Graph Fault → Option (List ℕ) → Result (Graph ×
 Loads (Ok graph) left meaning = IsSomeAnd left (λ rest. meaning ≡ Ok (graph, rest))
 Loads (Err fault) left meaning = Stops fault meaning
 
--- The same of what a call returned with its graph, seen by `view`.
-abbrev pub LoadsWith : {X : Type 0} → (X → Graph) → Result X Fault → Option (List ℕ) → Result (Graph × List ℕ) Fault → Type 0
+-- The same of what a call returned with its graph, or with the shares of the graph, seen by `view`.
+abbrev pub LoadsWith : {X Y : Type 0} → (X → Y) → Result X Fault → Option (List ℕ) → Result (Y × List ℕ) Fault → Type 0
 LoadsWith view (Ok x) left meaning = IsSomeAnd left (λ rest. meaning ≡ Ok (view x, rest))
 LoadsWith view (Err fault) left meaning = Stops fault meaning
 

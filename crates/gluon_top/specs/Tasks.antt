@@ -43,7 +43,7 @@ task_of_job (Sssp root run) = None
 task_of_job (Cc run) = None
 task_of_job (Kcore k run) = None
 task_of_job (Owners hosts rules) = Some (task.Owners hosts rules)
-task_of_job (Proxies hosts rules way) = None
+task_of_job (Proxies hosts rules way) = Some (task.Proxies hosts rules way)
 task_of_job (Selfrun size number hosts rules order) = None
 
 -- the task of words; where there is none, the words are refused
@@ -55,4 +55,5 @@ abbrev pub reads_input : Option Task → Bool
 reads_input (Some (task.Search root)) = true
 reads_input (Some (task.Make size number)) = false
 reads_input (Some (task.Owners hosts rules)) = true
+reads_input (Some (task.Proxies hosts rules way)) = true
 reads_input None = false

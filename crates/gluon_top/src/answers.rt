@@ -9,6 +9,7 @@ ghost use Rattle.gluon_top.specs.Answers.{text_of, AreFew};
 
 use crate::fault::Fault;
 use crate::owners::owners;
+use crate::proxies::{Divided, proxies};
 use crate::search::search;
 use crate::task::{Task, read_task};
 use graph_maker::make;
@@ -18,7 +19,7 @@ use share_plan::SharePlan;
 use std::alloc::Global;
 
 /// What a task came to.
-#[derive(Debug, Drop)]
+#[derive(Drop)]
 pub(crate) enum Answers {
     /// The distance of each node from the root, where a walk reaches it.
     Distances(Vec<Option<u32>>),
@@ -26,6 +27,8 @@ pub(crate) enum Answers {
     Made(EdgeList),
     /// A graph, and which host has each vertex and each edge.
     Owned(EdgeList, SharePlan),
+    /// A graph that is divided among hosts.
+    Divided(Divided),
 }
 
 /// What the task that the words ask for comes to, over the graph that the source gives where it reads one; or
@@ -51,6 +54,10 @@ pub(crate) fn answer<S: Source>(
         Task::Owners { hosts, rules } => {
             let owned = owners(alloc, hosts, rules, source)?;
             Ok(Answers::Owned(owned.0, owned.1))
+        }
+        Task::Proxies { hosts, rules, way } => {
+            let divided = proxies(alloc, hosts, rules, way, source)?;
+            Ok(Answers::Divided(divided))
         }
     }
 }

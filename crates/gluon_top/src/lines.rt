@@ -1,4 +1,5 @@
-//! The text of each outcome: a line for each node, masters and owners, or one line for a fault.
+//! The text of each outcome: a line for each node, masters and owners, proxies and lists, or one line for a
+//! fault.
 ghost use Rattle.std.specs.Prelude.{◌≡◌, ◌≤◌, ◌++◌, length, decimal, OnOk, OnErr};
 ghost use Rattle.io_edge.specs.Faults.{Rose};
 ghost use Rattle.io_edge.specs.Bytes.{Gains, GainsPrefix};
@@ -12,18 +13,22 @@ ghost use Rattle.gluon_top.specs.Lines.{lines_text, AreFewLines};
 use crate::fault::Fault;
 use crate::line::Line;
 use crate::owner_lines::write_owners;
+use crate::proxies::Divided;
 use answer_writer::{write_answer, write_number, write_words};
 use graph_model::EdgeList;
 use io_edge::{PagedSink, Sink, SinkFault, write_whole};
+use partition_text::write_partition;
 use share_plan::SharePlan;
 
 /// Lines that are written.
-#[derive(Clone, Copy, Debug)]
+#[derive(Clone, Copy)]
 pub(crate) enum Lines<'a> {
     /// A line for each node, from 0 on: its distance, or `-` for none.
     Answers(&'a [Option<u32>]),
     /// A line for each vertex with its master, and then one for each edge with its owner.
     Owners(&'a EdgeList, &'a SharePlan),
+    /// The text of a graph that is divided among hosts.
+    Divided(&'a Divided),
     /// The line of a fault, which want of memory does not have.
     Fault(Fault),
 }
@@ -49,6 +54,9 @@ fn write_each_line<K: Sink>(sink: &mut K, lines: Lines<'_>) -> Result<(), SinkFa
     match lines {
         Lines::Answers(distances) => write_answers(sink, distances),
         Lines::Owners(list, plan) => write_owners(sink, list, plan),
+        Lines::Divided(divided) => {
+            write_partition(sink, &divided.graphs, &divided.memos, divided.way)
+        }
         Lines::Fault(fault) => write_fault(sink, fault),
     }
 }

@@ -32,6 +32,15 @@ pub enum Task {
         /// The rules by which the graph is shared out.
         rules: Rules,
     },
+    /// Tell the proxies of each host, and the lists that hosts agree on.
+    Proxies {
+        /// The number of hosts, from 1 to 64.
+        hosts: u16,
+        /// The rules by which the graph is shared out.
+        rules: Rules,
+        /// How edges are followed.
+        way: Way,
+    },
 }
 
 /// The task that the words ask for. Words that ask for a job that does not run yet are refused.
@@ -58,6 +67,7 @@ fn task_now(job: Job) -> Option<Task>
         Job::Bfs { root, run } if is_default(&run) => Some(Task::Search { root }),
         Job::Make { size, number } => Some(Task::Make { size, number }),
         Job::Owners { hosts, rules } => Some(Task::Owners { hosts, rules }),
+        Job::Proxies { hosts, rules, way } => Some(Task::Proxies { hosts, rules, way }),
         _ => None,
     }
 }

@@ -5,12 +5,12 @@ use std::process::Abort;
 use std::test::Fail;
 
 /// The diamond: 0 to 1, 0 to 2, 1 to 3, 2 to 3.
-const DIAMOND_LONGS: [u64; 8] = [1, 0, 4, 4, 2, 3, 4, 4];
+pub(crate) const DIAMOND_LONGS: [u64; 8] = [1, 0, 4, 4, 2, 3, 4, 4];
 
-const DIAMOND_WORDS: [u32; 4] = [1, 2, 3, 3];
+pub(crate) const DIAMOND_WORDS: [u32; 4] = [1, 2, 3, 3];
 
 /// The bytes of these numbers, of 8 bytes and then of 4, cut after `length` bytes.
-fn file(alloc: Global, longs: &[u64], words: &[u32], length: usize) -> Result<Vec<u8>, AllocError> {
+pub(crate) fn file(alloc: Global, longs: &[u64], words: &[u32], length: usize) -> Result<Vec<u8>, AllocError> {
     let mut bytes = Vec::new(alloc);
     for long in longs {
         bytes.extend_from_slice(&long.to_le_bytes())?;
@@ -31,7 +31,7 @@ fn owned(alloc: Global, words: &[&str]) -> Result<Vec<String>, AllocError> {
 }
 
 /// The call on these words and bytes ends with this status and has written this text.
-fn expect_run(
+pub(crate) fn expect_run(
     rt: &impl Abort,
     alloc: Global,
     words: &[&str],

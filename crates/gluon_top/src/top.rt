@@ -131,9 +131,23 @@ fn write_text<K: Sink>(sink: &mut K, outcome: &Result<Answers, Fault>) -> Result
     ensures prefix { OnErr result (GainsPrefix (K.held sink.old) (K.held sink.new) (text_after text_of outcome.now)) }
 {
     match outcome {
-        Ok(Answers::Distances(distances)) => write_lines(sink, Lines::Answers(distances)),
-        Ok(Answers::Made(graph)) => write_graph(sink, graph, 4),
-        Ok(Answers::Owned(list, plan)) => write_lines(sink, Lines::Owners(list, plan)),
+        Ok(answers) => write_answers(sink, answers),
         Err(fault) => write_lines(sink, Lines::Fault(*fault)),
+    }
+}
+
+/// Writes the text of what a task came to, in whole pages.
+fn write_answers<K: Sink>(sink: &mut K, answers: &Answers) -> Result<(), SinkFault>
+    requires { AreFew answers.now }
+    ensures whole { OnOk result (Gains (K.held sink.old) (K.held sink.new) (text_of answers.now)) }
+    ensures quiet { OnOk result (K.faults sink.new ≡ K.faults sink.old) }
+    ensures rose { OnErr result (Rose (K.faults sink.old) (K.faults sink.new)) }
+    ensures prefix { OnErr result (GainsPrefix (K.held sink.old) (K.held sink.new) (text_of answers.now)) }
+{
+    match answers {
+        Answers::Distances(distances) => write_lines(sink, Lines::Answers(distances)),
+        Answers::Made(graph) => write_graph(sink, graph, 4),
+        Answers::Owned(list, plan) => write_lines(sink, Lines::Owners(list, plan)),
+        Answers::Divided(divided) => write_lines(sink, Lines::Divided(divided)),
     }
 }

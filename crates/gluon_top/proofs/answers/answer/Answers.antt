@@ -1,11 +1,13 @@
 use Rattle.std.proofs.Common.{◌≡◌, ◌∙◌, ap, ℕ, List, map, string_bytes, Some, Err, refl}
 use Rattle.std.proofs.lemmas.Result.{err_from_is_err_and}
 use Rattle.gluon_top.specs.Answers.{text_of}
-use Rattle.gluon_top.specs.declared.answers.Answers.TheVariants.{Distances, Made, Owned}
+use Rattle.gluon_top.specs.declared.answers.Answers.TheVariants.{Distances, Made, Owned, Divided}
+use Rattle.graph_model.specs.declared.edge.Way.{Way}
+use Rattle.partition_text.specs.Text.{partition_text}
 use Rattle.gr_writer.specs.File.{file_of}
 use Rattle.gluon_top.proofs.Sizes.{size_in_range}
-use Rattle.gluon_top.proofs.HostRanges.{hosts_in_range}
-use Rattle.gluon_top.proofs.Loading.{refused_stops, search_stops, distances_found, graph_made, owners_found, owners_stop}
+use Rattle.gluon_top.proofs.HostRanges.{hosts_in_range, proxy_hosts_in_range}
+use Rattle.gluon_top.proofs.Loading.{refused_stops, search_stops, distances_found, graph_made, owners_found, owners_stop, proxies_found, proxies_stop}
 use Rattle.gluon_top.proofs.answers.answer.Goals as goal
 
 pub returns-in_err-root-clause-means : goal.returns-in_err-root-clause-means
@@ -53,3 +55,20 @@ returns-in_ok-owned-in-Owners-clause-means g c =
     owners_found text_of (map string_bytes c.args.words.now) c.in-Owners.rules c.in-Owners.hosts (g.S.Source.left c.args.source.now) (g.S.Source.left c.owners.new.source)
     (Owned c.in_ok-owned-in-Owners.owned.0 c.in_ok-owned-in-Owners.owned.1) c.in_ok-owned-in-Owners.owned.0
     (c.in_ok-root.ensures.task ∙ ap (λ task. Some task) c.in-Owners.is) c.in_ok-owned-in-Owners.ensures.text c.in_ok-owned-in-Owners.ensures.means
+
+pub proxies-requires : goal.proxies-requires
+proxies-requires g c =
+    proxy_hosts_in_range (map string_bytes c.args.words.now) c.in-Proxies.hosts c.in-Proxies.rules c.in-Proxies.way (c.in_ok-root.ensures.task ∙ ap (λ task. Some task) c.in-Proxies.is)
+
+pub returns-in_err-divided-in-Proxies-clause-means : goal.returns-in_err-divided-in-Proxies-clause-means
+returns-in_err-divided-in-Proxies-clause-means g c =
+    let p = err_from_is_err_and c.from_residual-in_err-divided-in-Proxies.result c.from_residual-in_err-divided-in-Proxies.ensures.1 in
+    rw (p.1, p.2) (proxies_stop text_of (map string_bytes c.args.words.now) c.in-Proxies.rules c.in-Proxies.hosts c.in-Proxies.way (g.S.Source.left c.args.source.now) (g.S.Source.left c.proxies.new.source) c.in_err-divided-in-Proxies.field-0.0
+    (c.in_ok-root.ensures.task ∙ ap (λ task. Some task) c.in-Proxies.is) c.in_err-divided-in-Proxies.ensures.means)
+
+pub returns-in_ok-divided-in-Proxies-clause-means : goal.returns-in_ok-divided-in-Proxies-clause-means
+returns-in_ok-divided-in-Proxies-clause-means g c =
+    let divided = c.in_ok-divided-in-Proxies.divided in
+    proxies_found text_of (map string_bytes c.args.words.now) c.in-Proxies.rules c.in-Proxies.hosts c.in-Proxies.way (g.S.Source.left c.args.source.now) (g.S.Source.left c.proxies.new.source)
+    (Divided divided) divided.graphs.items
+    (c.in_ok-root.ensures.task ∙ ap (λ task. Some task) c.in-Proxies.is) (ap (λ (way : Way). partition_text way divided.graphs.items) c.in_ok-divided-in-Proxies.ensures.way) c.in_ok-divided-in-Proxies.ensures.means
