@@ -19,7 +19,6 @@ use Rattle.graph_model.specs.declared.edge.Way.{Way}
 use Rattle.graph_division.specs.Shares.{Share}
 use Rattle.partition_build.specs.Meant.{shared}
 use Rattle.partition_text.specs.Text.{partition_text}
-use Rattle.share_plan.specs.Owners.{shares_of}
 use Rattle.graph_maker.specs.MadeGraph.{made_graph}
 use Rattle.gr_writer.specs.File.{file_of}
 use Rattle.gluon_top.specs.declared.fault.Fault.{Fault}
@@ -255,20 +254,6 @@ pub owners_stop : {X : Type 0} (text_of : X → List ℕ) (words : List (List �
 unfolding meaning_of answer_of
 owners_stop text_of words rules hosts left after fault asked stopped =
     rw asked (IfSome_then left stopped (λ bytes stop. IfMeant-map (cause_of fault) _ _ (λ is. rw is refl) stop))
-
--- a file that cannot be divided, since it is refused
-pub shares_stop : (rules : Rules) (hosts : ℕ) (left after : Option (List ℕ)) (fault : GrFault) →
-    IfSome left (λ bytes. Means {X = Graph} {Y = Graph} (λ graph. graph) (Err fault) after (file_at bytes)) →
-    IfSome left (λ bytes. Stops (Input fault) (of_input (shared rules hosts (file_at bytes))))
-shares_stop rules hosts left after fault means = IfSome_then left means (λ bytes refuses.
-    stops fault (file_at bytes) (of_input (shared rules hosts (file_at bytes))) (λ is. rw is refl) refuses)
-
--- the shares of a graph that is read
-pub shares_load : (rules : Rules) (hosts : ℕ) (left after : Option (List ℕ)) (graph : Graph) (shares : List Share) → shares ≡ shares_of rules hosts graph →
-    IfSome left (λ bytes. Means {X = Graph} {Y = Graph} (λ graph. graph) (Ok graph) after (file_at bytes)) →
-    IfSome left (λ bytes. IsSomeAnd after (λ rest. of_input (shared rules hosts (file_at bytes)) ≡ Ok (shares, rest)))
-shares_load rules hosts left None graph shares same means = IfSome_then left means (λ bytes found. absurd found)
-shares_load rules hosts left (Some rest) graph shares same means = IfSome_then left means (λ bytes found. rw (found, same) refl)
 
 -- proxies and lists are found
 pub proxies_found : {X : Type 0} (text_of : X → List ℕ) (words : List (List ℕ)) (rules : Rules) (hosts : ℕ) (way : Way) (left after : Option (List ℕ)) (x : X) (shares : List Share) → task_of words ≡ Some (task.Proxies hosts rules way) →

@@ -18,9 +18,9 @@ mod line;
 mod lines;
 mod owner_lines;
 mod owners;
+mod proxies;
 #[cfg(test)]
 mod proxy_tests;
-mod proxies;
 mod search;
 mod status;
 mod task;

@@ -1,5 +1,18 @@
 //! The text of proxies and lists. The expected texts were worked out from the definitions.
+ghost use Rattle.graph_division.specs.Partition.{IsPartition};
+
 use crate::tests::{DIAMOND_LONGS, DIAMOND_WORDS, expect_run, file};
+use cusp_rules::MasterRule;
+use edge_owner::{OwnerRule, Rules};
+use graph_maker::make;
+use graph_model::Way;
+use io_edge::{FirstPicks, LastPicks, ListedPicks, MemorySink, Picker, SinkFault};
+use memo_exchange::exchange;
+use partition_build::build_list;
+use partition_text::write_partition;
+use proxy_graph::LocalGraph;
+use std::alloc::{AllocError, Global};
+use std::process::Abort;
 use std::test::Fail;
 
 /// Edges 0 to 0, 0 to 1 twice, 1 to 2 and 2 to 1.
@@ -381,5 +394,43 @@ fn a_damaged_file_has_its_line_and_no_proxies(rt: HostRuntime) -> Result<(), Fai
         let cut = file(alloc, &DIAMOND_LONGS, &DIAMOND_WORDS, length)?;
         expect_run(&rt, alloc, &["proxies"], cut, 3, line)?;
     }
+    Ok(())
+}
+
+/// The text of a partition whose hosts told each other their lists in the order of these picks.
+fn text_by_picks<P: Picker>(
+    alloc: Global,
+    graphs: &[LocalGraph],
+    picker: &mut P,
+) -> Result<Vec<u8>, AllocError>
+    requires { IsPartition graphs.now }
+{
+    let memos = exchange(alloc, graphs, Way::Both, picker)?;
+    let mut sink = MemorySink::new(alloc, 65_536, 65_536, Vec::new(alloc))?;
+    match write_partition(&mut sink, graphs, &memos, Way::Both) {
+        Ok(()) => sink.held().to_vec(alloc),
+        Err(SinkFault) => Err(AllocError),
+    }
+}
+
+#[test]
+fn lists_of_64_hosts_are_the_same_whoever_is_heard_first(rt: HostRuntime) -> Result<(), Fail> {
+    let alloc = rt.alloc();
+    let list = make(alloc, 64, 1)?;
+    let rules = Rules {
+        masters: MasterRule::Nodes,
+        owner: OwnerRule::Cartesian,
+    };
+    let graphs = build_list(alloc, &list, rules, 64)?;
+    let mut picks = Vec::new(alloc);
+    for i in 0..1000_u32 {
+        picks.push(i.wrapping_mul(7919))?;
+    }
+    let first = text_by_picks(alloc, &graphs, &mut FirstPicks)?;
+    let last = text_by_picks(alloc, &graphs, &mut LastPicks)?;
+    let listed = text_by_picks(alloc, &graphs, &mut ListedPicks::new(picks))?;
+    assert!(rt; first.starts_with(b"host 0 masters 1 mirrors "));
+    assert_eq!(rt; last.as_slice(), first.as_slice());
+    assert_eq!(rt; listed.as_slice(), first.as_slice());
     Ok(())
 }

@@ -10,7 +10,12 @@ pub(crate) const DIAMOND_LONGS: [u64; 8] = [1, 0, 4, 4, 2, 3, 4, 4];
 pub(crate) const DIAMOND_WORDS: [u32; 4] = [1, 2, 3, 3];
 
 /// The bytes of these numbers, of 8 bytes and then of 4, cut after `length` bytes.
-pub(crate) fn file(alloc: Global, longs: &[u64], words: &[u32], length: usize) -> Result<Vec<u8>, AllocError> {
+pub(crate) fn file(
+    alloc: Global,
+    longs: &[u64],
+    words: &[u32],
+    length: usize,
+) -> Result<Vec<u8>, AllocError> {
     let mut bytes = Vec::new(alloc);
     for long in longs {
         bytes.extend_from_slice(&long.to_le_bytes())?;
