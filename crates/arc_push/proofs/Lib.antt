@@ -1,0 +1,4 @@
+pub mod Here
+pub mod OneMore
+pub mod Followed
+pub mod Tails

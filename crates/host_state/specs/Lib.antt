@@ -1,0 +1,5 @@
+pub mod HostState
+pub mod Serving
+pub mod Gained
+pub mod Posting
+pub mod OwnEffects
