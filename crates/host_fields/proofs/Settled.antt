@@ -1,5 +1,5 @@
 -- One master settles, or has nothing to settle with.
-use Rattle.std.proofs.Common.{◌≡◌, ◌↔◌, Bool, true, false, not, refl, sym, ap, subst, ◌∙◌}
+use Rattle.std.proofs.Common.{◌≡◌, ◌↔◌, Bool, true, false, not, refl, sym, ap, ◌∙◌}
 use Rattle.reduce_laws.specs.ReductionLaws.{Reducer}
 use Rattle.reduce_laws.specs.ProgramLaws.{Steps, ProgramLaws}
 

@@ -9,3 +9,6 @@ mod handing;
 mod partition;
 
 pub use partition::{build, build_list};
+
+#[cfg(test)]
+mod tests;

@@ -1,5 +1,5 @@
 -- The hosts of a partition whose hosts agreed on their lists.
-use Rattle.std.proofs.Common.{◌≡◌, ◌∙◌, ℕ, ◌≤◌, ◌<◌, List, length, slice_get, Some, sym, arith}
+use Rattle.std.proofs.Common.{◌≡◌, ◌∙◌, ℕ, ◌≤◌, ◌<◌, List, length, slice_get, Some, arith}
 use Rattle.list_laws.proofs.Places.{element_at}
 use Rattle.graph_model.specs.declared.edge.Way.{Way}
 use Rattle.graph_division.specs.Shares.{Share}

@@ -1,7 +1,7 @@
-use Rattle.std.proofs.Common.{◌≡◌, ◌<◌, ◌≤◌, ℕ, not, true, false, length, get_or, set, sym, ap, ◌∙◌, inl, inr, arith}
+use Rattle.std.proofs.Common.{◌<◌, ℕ, not, length, get_or, sym, ap, ◌∙◌, inl, inr, arith}
 use Rattle.std.proofs.lemmas.Bool.{cases_lt, true≢false}
 use Rattle.std.proofs.lemmas.List.{length-set}
-use Rattle.list_laws.specs.Members.{has_member, IsLeastMemberSince, HasNoMemberSince}
+use Rattle.list_laws.specs.Members.{has_member, IsLeastMemberSince}
 use Rattle.host_fields.proofs.Settled.{IsSettled}
 use Rattle.host_fields.proofs.MastersSettle.{Fields, AreQuiet, AreLong, AreValues, SettlesOne, one_more_settled, then_values, all_settled}
 use Rattle.host_fields.proofs.settling.settle_news.Goals as goal

@@ -1,4 +1,4 @@
-use Rattle.std.proofs.Common.{◌++◌, Bool, List, ℕ, [], ◌∷◌, ap, sym}
+use Rattle.std.proofs.Common.{ap, sym}
 use Rattle.io_edge.proofs.Writings.{WroteBy-++}
 use Rattle.answer_writer.specs.Report.{class_line}
 use Rattle.partition_text.proofs.Texts.{by_as}

@@ -1,4 +1,4 @@
-use Rattle.std.proofs.Common.{◌≡◌, ◌-◌, ℕ, List, [], ◌∷◌, ◌++◌, length, length-append, codes, ap, ◌∙◌, arith}
+use Rattle.std.proofs.Common.{◌≡◌, ℕ, List, [], ◌∷◌, ◌++◌, length, length-append, codes, ap, ◌∙◌, arith}
 use Rattle.io_edge.proofs.Writings.{WroteFront-++, WroteFront-more, WroteBy-++, WroteBy-err}
 use Rattle.answer_writer.specs.Lines.{words_line}
 use Rattle.graph_division.specs.Shares.{Share, masters_here, mirrors_here}

@@ -1,4 +1,4 @@
-use Rattle.std.proofs.Common.{◌++◌, ◌∷◌, [], codes, length, ap, sym, ◌∙◌}
+use Rattle.std.proofs.Common.{◌∷◌, [], codes, length, ap, sym, ◌∙◌}
 use Rattle.std.proofs.lemmas.Bool.{eqb-false}
 use Rattle.io_edge.proofs.Writings.{WroteFront-++, WroteFront-more, WroteBy-++, WroteBy-err}
 use Rattle.partition_text.specs.Hosts.{number_after}

@@ -1,4 +1,4 @@
-use Rattle.std.proofs.Common.{◌≡◌, ℕ, List, length, ap, arith}
+use Rattle.std.proofs.Common.{ℕ, List, ap, arith}
 use Rattle.std.specs.List.{flat_map}
 use Rattle.io_edge.proofs.Writings.{WroteBy-err}
 use Rattle.packet_table.specs.declared.channel_spec.Leg.{Leg}

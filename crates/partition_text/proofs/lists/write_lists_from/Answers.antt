@@ -1,4 +1,4 @@
-use Rattle.std.proofs.Common.{◌≡◌, length, ap, arith}
+use Rattle.std.proofs.Common.{ap, arith}
 use Rattle.std.specs.List.{flat_map}
 use Rattle.io_edge.proofs.Writings.{WroteBy-err}
 use Rattle.graph_division.specs.Division.{hosts_of}

@@ -1,4 +1,4 @@
-use Rattle.std.proofs.Common.{ℕ, get_or, codes, ap, refl}
+use Rattle.std.proofs.Common.{get_or, codes, ap, refl}
 use Rattle.io_edge.proofs.Writings.{WroteBy-err}
 use Rattle.answer_writer.specs.Lines.{spaced_number}
 use Rattle.partition_text.specs.Hosts.{number_after}

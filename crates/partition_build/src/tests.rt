@@ -1,0 +1,120 @@
+//! Graphs that are divided by each rule.
+use crate::{build, build_list};
+use cusp_rules::MasterRule;
+use edge_owner::{OwnerRule, Rules};
+use gr_reader::{GrReader, read_graph};
+use graph_model::EdgeList;
+use io_edge::PlainSource;
+use proxy_graph::LocalGraph;
+use std::alloc::{AllocError, Global};
+use std::process::Abort;
+use std::test::Fail;
+
+/// Edges 0 to 0, 0 to 1 twice, 1 to 2 and 2 to 1.
+const LOOP_LONGS: [u64; 7] = [1, 0, 3, 5, 3, 4, 5];
+
+const LOOP_WORDS: [u32; 5] = [0, 1, 1, 2, 1];
+
+/// A source of these numbers, of 8 bytes and then of 4.
+fn file(alloc: Global, longs: &[u64], words: &[u32]) -> Result<PlainSource, AllocError> {
+    let mut bytes = Vec::new(alloc);
+    for long in longs {
+        bytes.extend_from_slice(&long.to_le_bytes())?;
+    }
+    for word in words {
+        bytes.extend_from_slice(&word.to_le_bytes())?;
+    }
+    Ok(PlainSource::new(bytes))
+}
+
+fn read(alloc: Global, longs: &[u64], words: &[u32]) -> Result<EdgeList, AllocError> {
+    let mut source = file(alloc, longs, words)?;
+    match read_graph(alloc, &mut source) {
+        Ok(list) => Ok(list),
+        Err(_) => Err(AllocError),
+    }
+}
+
+/// The vertices of the mirrors.
+fn mirrors(alloc: Global, graph: &LocalGraph) -> Result<Vec<u32>, AllocError> {
+    let mut vertices = Vec::new(alloc);
+    for lid in graph.masters()..graph.proxies() {
+        vertices.push(graph.global(lid))?;
+    }
+    Ok(vertices)
+}
+
+/// Each host has as many edges as it should, and these mirrors.
+fn expect_hosts(
+    rt: &impl Abort,
+    alloc: Global,
+    graphs: &[LocalGraph],
+    hosts: &[(u32, &[u32])],
+) -> Result<(), AllocError> {
+    assert_eq!(rt; graphs.len(), hosts.len());
+    for (graph, host) in graphs.iter().zip(hosts) {
+        assert_eq!(rt; graph.edges(), host.0);
+        let mirrors = mirrors(alloc, graph)?;
+        assert_eq!(rt; mirrors.as_slice(), host.1);
+    }
+    Ok(())
+}
+
+#[test]
+fn each_owner_rule_hands_out_loops_and_repeated_edges(rt: HostRuntime) -> Result<(), Fail> {
+    let alloc = rt.alloc();
+    let list = read(alloc, &LOOP_LONGS, &LOOP_WORDS)?;
+    let all: [(OwnerRule, [(u32, &[u32]); 4]); 4] = [
+        (
+            OwnerRule::Source,
+            [(3, &[1]), (1, &[2]), (1, &[1]), (0, &[])],
+        ),
+        (
+            OwnerRule::Dest,
+            [(1, &[]), (3, &[0, 2]), (1, &[1]), (0, &[])],
+        ),
+        (
+            OwnerRule::Hybrid(2),
+            [(1, &[]), (3, &[0, 2]), (1, &[1]), (0, &[])],
+        ),
+        (
+            OwnerRule::Cartesian,
+            [(2, &[1, 2]), (2, &[0]), (0, &[]), (1, &[1, 2])],
+        ),
+    ];
+    for (owner, hosts) in all {
+        let rules = Rules {
+            masters: MasterRule::Nodes,
+            owner,
+        };
+        let graphs = build_list(alloc, &list, rules, 4)?;
+        expect_hosts(&rt, alloc, &graphs, &hosts)?;
+    }
+    Ok(())
+}
+
+#[test]
+fn a_file_is_divided_and_one_without_nodes_too(rt: HostRuntime) -> Result<(), Fail> {
+    let alloc = rt.alloc();
+    let rules = Rules {
+        masters: MasterRule::Edges,
+        owner: OwnerRule::Source,
+    };
+    let all: [(&[u64], &[u32], [(u32, &[u32]); 2]); 2] = [
+        (&LOOP_LONGS, &LOOP_WORDS, [(3, &[1]), (2, &[])]),
+        (&[1, 0, 0, 0], &[], [(0, &[]), (0, &[])]),
+    ];
+    for (longs, words, hosts) in all {
+        let mut source = file(alloc, longs, words)?;
+        let mut reader = GrReader::new(alloc)?;
+        match reader.read_head(&mut source) {
+            Ok(_) => {}
+            Err(_) => return Err(Fail::from(AllocError)),
+        }
+        match build(alloc, &mut reader, &mut source, rules, 2) {
+            Ok(graphs) => expect_hosts(&rt, alloc, &graphs, &hosts)?,
+            Err(_) => return Err(Fail::from(AllocError)),
+        }
+    }
+    Ok(())
+}
