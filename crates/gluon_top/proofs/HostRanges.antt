@@ -1,6 +1,6 @@
 -- The number of hosts that words ask for.
-use Rattle.std.proofs.Common.{◌≡◌, ℕ, ◌≤◌, Bool, true, false, cond, refl, Option, Some, None, subst, arith}
-use Rattle.std.specs.Prelude.{option_and_then, ◌&&◌, nat_le, codes, is_some, List, [], ◌∷◌, if◌then◌else◌}
+use Rattle.std.proofs.Common.{◌≡◌, ℕ, Bool, true, false, cond, refl, Option, Some, None, subst, arith}
+use Rattle.std.specs.Prelude.{option_and_then, nat_le, codes, is_some, List, [], ◌∷◌, if◌then◌else◌}
 use Rattle.std.specs.Str.{bytes_eq}
 use Rattle.std.specs.Str.Parse.{digits_value}
 use Rattle.std.proofs.lemmas.Bool.{leb-true, and_parts}

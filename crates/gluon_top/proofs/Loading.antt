@@ -1,6 +1,6 @@
 -- From what the reader says of the head and of the rest to what the graph means, and from that to what words and
 -- bytes mean.
-use Rattle.std.proofs.Common.{◌≡◌, ◌⊎◌, inl, inr, ℕ, ◌+◌, ◌<◌, ◌≤◌, List, Option, Some, None, Result, Ok, Err, IfSome, Bool, true, false, nat_lt, refl, arith, drop, sym, ◌∙◌, ap, length}
+use Rattle.std.proofs.Common.{◌≡◌, ◌⊎◌, inl, inr, ℕ, ◌+◌, ◌<◌, ◌≤◌, List, Option, Some, None, Result, Ok, Err, IfSome, Bool, true, false, nat_lt, refl, arith, drop, sym, ap, length}
 use Rattle.std.specs.Prelude.{IsSomeAnd, ◌==◌, ◌||◌, nat_le}
 use Rattle.std.proofs.lemmas.Bool.{lt-ltb, le-ltb}
 use Rattle.std.proofs.lemmas.Option.{IfSome_then}
@@ -23,15 +23,13 @@ use Rattle.graph_maker.specs.MadeGraph.{made_graph}
 use Rattle.gr_writer.specs.File.{file_of}
 use Rattle.gluon_top.specs.declared.fault.Fault.{Fault}
 use Rattle.gluon_top.specs.declared.fault.Fault.TheVariants.{Words, Root, Input, Memory}
-use Rattle.gluon_top.specs.declared.task.Task.{Task}
 use Rattle.gluon_top.specs.declared.task.Task.TheVariants as task
 use Rattle.gluon_top.specs.Fault.{Cause, Meant, FailedRead, NoMemory, cause_of, cause_of_input}
 use Rattle.gluon_top.specs.Tasks.{task_of, reads_input}
-use Rattle.gluon_top.specs.Distances.{AreLevels}
-use Rattle.gluon_top.specs.Meaning.{Answer, searched, generated, owned, divided, answer_lines, answer_of, of_input, graph_of, meaning_of, OfBytes, OfInput, IsText}
-use Rattle.gluon_top.specs.Outcome.{IfMeant, Stops, Finds, Leaves, LeftAfter}
+use Rattle.gluon_top.specs.Meaning.{searched, generated, owned, divided, answer_lines, answer_of, of_input, graph_of, meaning_of, OfBytes, OfInput}
+use Rattle.gluon_top.specs.Outcome.{IfMeant, Stops, Finds, LeftAfter}
 use Rattle.gluon_top.specs.Owners.{owners_text}
-use Rattle.gluon_top.specs.Search.{Loads, LoadsWith, FoundDistances, FindsDistances}
+use Rattle.gluon_top.specs.Search.{Loads, FoundDistances}
 
 -- what follows from a fault that bytes have, of a fault of the call
 input_stops : (cause : causes.Cause) (P Q : Type 0) → (P → Q) → causes.IfBytes cause P → IfMeant (cause_of_input cause) Q

@@ -1,5 +1,5 @@
 -- What the parts of the top call promise: that a task comes to its answer, and that the text is written.
-use Rattle.std.specs.Prelude.{◌≡◌, ◌≢◌, ℕ, List, Option, None, Some, IfSome, IsErrAnd, Result, Ok, Err, ◌⊎◌, drop}
+use Rattle.std.specs.Prelude.{◌≡◌, ◌≢◌, ℕ, List, Option, Some, IsErrAnd, Result, Ok, Err, ◌⊎◌, drop}
 use Rattle.io_edge.specs.Faults.{Rose}
 use Rattle.io_edge.specs.Bytes.{Gains, GainsPrefix}
 use Rattle.gr_reader.specs.Reach.{TakesAtMost, file_reach}

@@ -6,7 +6,6 @@ use Rattle.cusp_rules.specs.declared.master_rule.MasterRule.{MasterRule}
 use Rattle.cusp_rules.specs.declared.master_rule.MasterRule.TheVariants.{Edges, Nodes}
 use Rattle.edge_owner.specs.declared.owner_rule.OwnerRule.{OwnerRule}
 use Rattle.edge_owner.specs.declared.owner_rule.OwnerRule.TheVariants.{Source, Dest, Hybrid, Cartesian}
-use Rattle.edge_owner.specs.declared.rules.Rules.{Rules}
 use Rattle.command_words.specs.declared.job.RunWords.{RunWords}
 use Rattle.command_words.specs.declared.job.Job.{Job}
 use Rattle.command_words.specs.declared.job.Job.TheVariants.{Bfs, Sssp, Cc, Kcore, Owners, Proxies, Make, Selfrun}

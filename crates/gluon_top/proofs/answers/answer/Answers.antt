@@ -1,4 +1,4 @@
-use Rattle.std.proofs.Common.{◌≡◌, ◌∙◌, ap, ℕ, List, map, string_bytes, Some, Err, refl}
+use Rattle.std.proofs.Common.{◌∙◌, ap, map, string_bytes, Some, Err, refl}
 use Rattle.std.proofs.lemmas.Result.{err_from_is_err_and}
 use Rattle.gluon_top.specs.Answers.{text_of}
 use Rattle.gluon_top.specs.declared.answers.Answers.TheVariants.{Distances, Made, Owned, Divided}

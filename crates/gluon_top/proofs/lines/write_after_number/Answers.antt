@@ -1,4 +1,3 @@
-use Rattle.std.proofs.Common.{◌++◌, decimal}
 use Rattle.io_edge.specs.Writing.{WroteAll, state_of}
 use Rattle.io_edge.proofs.Writings.{WroteAll-++, WroteFront-++, WroteFront-more, WroteBy-++, WroteBy-err}
 use Rattle.gluon_top.proofs.lines.write_after_number.Goals as goal

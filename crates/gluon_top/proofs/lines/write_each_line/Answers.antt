@@ -1,4 +1,4 @@
-use Rattle.std.proofs.Common.{◌≡◌, ℕ, List, ap, sym, subst, ◌∙◌}
+use Rattle.std.proofs.Common.{ℕ, List, ap, sym, subst, ◌∙◌}
 use Rattle.io_edge.specs.Writing.{WroteBy, state_of}
 use Rattle.partition_text.specs.Text.{partition_text}
 use Rattle.gluon_top.specs.Lines.{lines_text}

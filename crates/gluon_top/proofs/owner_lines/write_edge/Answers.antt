@@ -1,4 +1,4 @@
-use Rattle.std.proofs.Common.{◌≡◌, ℕ, List, [], ◌∷◌, subst}
+use Rattle.std.proofs.Common.{ℕ, [], ◌∷◌, subst}
 use Rattle.std.specs.Prelude.{codes}
 use Rattle.io_edge.specs.Writing.{WroteBy, state_of}
 use Rattle.answer_writer.specs.Lines.{words_line}

@@ -1,4 +1,4 @@
-use Rattle.std.proofs.Common.{◌≡◌, ℕ, slice_index_or, refl, subst, arith}
+use Rattle.std.proofs.Common.{ℕ, slice_index_or, refl, subst, arith}
 use Rattle.io_edge.specs.Writing.{WroteAll, WroteFront, state_of}
 use Rattle.io_edge.proofs.Writings.{WroteAll-++, WroteBy-err}
 use Rattle.graph_model.specs.declared.edge.Edge.{Edge}

@@ -1,4 +1,4 @@
-use Rattle.std.proofs.Common.{◌≡◌, take, length}
+use Rattle.std.proofs.Common.{take}
 use Rattle.io_edge.specs.Writing.{WroteAll, state_of}
 use Rattle.gluon_top.specs.Numbered.{numbered}
 use Rattle.gluon_top.specs.Owners.{master_line}

@@ -1,6 +1,6 @@
-use Rattle.std.proofs.Common.{◌≡◌, List, ℕ, ap, subst}
+use Rattle.std.proofs.Common.{List, ℕ, subst}
 use Rattle.io_edge.specs.Writing.{WroteAll, WroteBy, state_of}
-use Rattle.io_edge.proofs.Writings.{WroteAll-++, WroteBy-++}
+use Rattle.io_edge.proofs.Writings.{WroteBy-++}
 use Rattle.graph_model.specs.declared.edge.Edge.{Edge}
 use Rattle.share_plan.specs.Plan.{owner_by}
 use Rattle.gluon_top.specs.Numbered.{numbered}

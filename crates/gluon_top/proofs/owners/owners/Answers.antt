@@ -1,4 +1,4 @@
-use Rattle.std.proofs.Common.{◌≡◌, ap}
+use Rattle.std.proofs.Common.{ap}
 use Rattle.cusp_rules.specs.Formulas.{masters_of}
 use Rattle.share_plan.specs.Starts.{starts_of}
 use Rattle.share_plan.specs.Owners.{owner_at}
