@@ -1,0 +1,11 @@
+pub mod Lists
+pub mod Left
+pub mod Ready
+pub mod Opening
+pub mod Closing
+pub mod Peers
+pub mod Settling
+pub mod Computing
+pub mod Taking
+pub mod Telling
+pub mod Serving
