@@ -117,6 +117,7 @@ impl<P: VertexProgram> Host<P> {
         ensures memo { IfOk result (λ host. host.memo ≡ memo) }
         ensures way { IfOk result (λ host. host.way ≡ way) }
         ensures program { IfOk result (λ host. host.view.program ≡ program) }
+        ensures facts { IfOk result (λ host. IsHost host) }
         ensures fresh { IfOk result (λ host. IsFresh (run_of P.Red.reducer (P.steps program) P.Red.Item.WIDTH P.Shown.WIDTH (seen way graph)) host.view) }
         // So it is on every divided graph that it serves.
         ensures serves { IfOk result (λ host. (division : Division) → Serves division host
