@@ -1,0 +1,16 @@
+pub mod Serving
+pub mod Rows
+pub mod Pairs
+pub mod Rooms
+pub mod Making
+pub mod Servers
+pub mod Moving
+pub mod Posting
+pub mod Happening
+pub mod Delivering
+pub mod Counted
+pub mod Few
+pub mod Turning
+pub mod Closed
+pub mod Clusters
+pub mod Rounds
