@@ -18,7 +18,5 @@
 #![tactic(auto)]
 
 mod host;
-#[cfg(test)]
-mod tests;
 
 pub use host::Host;
