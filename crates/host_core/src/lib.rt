@@ -18,5 +18,7 @@
 #![tactic(auto)]
 
 mod host;
+#[cfg(test)]
+mod tests;
 
 pub use host::Host;

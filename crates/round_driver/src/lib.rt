@@ -16,6 +16,8 @@ mod cluster;
 mod events;
 mod hosting;
 mod tally;
+#[cfg(test)]
+mod tests;
 mod turn;
 
 pub use cluster::Cluster;
