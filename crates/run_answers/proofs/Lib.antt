@@ -1,0 +1,3 @@
+pub mod HostByHost
+pub mod Masters
+pub mod Texts

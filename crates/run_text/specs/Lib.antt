@@ -1,0 +1,4 @@
+pub mod Told
+pub mod Asks
+pub mod Text
+pub mod Lines
