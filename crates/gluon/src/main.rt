@@ -1,8 +1,11 @@
 //! The program: words from the command line, a graph on standard input, answers on standard output.
 #![tactic(auto)]
 
+#[cfg(test)]
+mod tests;
+
 use gluon_top::{NO_MEMORY, gluon_main};
-use io_edge::{FirstPicks, StdSink, StdSource};
+use io_edge::{MixedPicks, StdSink, StdSource};
 use std::alloc::AllocError;
 use std::process::ExitCode;
 use std::rt::Env;
@@ -15,7 +18,8 @@ fn main(rt: HostRuntime) -> ExitCode {
     };
     let mut source = StdSource::new(rt.stdin());
     let mut sink = StdSink::new(rt.stdout());
-    let outcome = gluon_main(rt.alloc(), &words, &mut source, &mut sink, &mut FirstPicks);
+    let mut picker = MixedPicks::new();
+    let outcome = gluon_main(rt.alloc(), &words, &mut source, &mut sink, &mut picker);
     ExitCode::from(outcome.status)
 }
 

@@ -1,6 +1,6 @@
 -- The number of hosts that words ask for.
 use Rattle.std.proofs.Common.{◌≡◌, ℕ, Bool, true, false, cond, refl, Option, Some, None, subst, arith}
-use Rattle.std.specs.Prelude.{option_and_then, nat_le, codes, is_some, List, [], ◌∷◌, if◌then◌else◌}
+use Rattle.std.specs.Prelude.{option_and_then, option_map, IfSome, ◌≤◌, nat_le, codes, is_some, List, [], ◌∷◌, if◌then◌else◌}
 use Rattle.std.specs.Str.{bytes_eq}
 use Rattle.std.specs.Str.Parse.{digits_value}
 use Rattle.std.proofs.lemmas.Bool.{leb-true, and_parts}
@@ -8,17 +8,27 @@ use Rattle.graph_model.specs.declared.edge.Way.{Way}
 use Rattle.graph_model.specs.declared.edge.Way.TheVariants.{Outward, Both}
 use Rattle.cusp_rules.specs.Hosts.{IsHostCount}
 use Rattle.edge_owner.specs.declared.rules.Rules.{Rules}
+use Rattle.command_words.specs.declared.job.RunWords.{RunWords}
 use Rattle.command_words.specs.declared.job.Job.{Job}
 use Rattle.command_words.specs.declared.job.Job.TheVariants as job
 use Rattle.command_words.specs.Items.{Text, job_label, given, items_of}
 use Rattle.command_words.specs.Values.{number_needed, number_or, way_of}
-use Rattle.command_words.specs.Jobs.{Said, greatest, run_said, hosts_said, rules_said, size_said, made_number_said, order_said, has_only, options_of, job_name_of, job_named, job_if_only, job_said, job_of}
+use Rattle.command_words.specs.Jobs.{Said, greatest, run_said, hosts_said, rules_said, rounds_said, size_said, made_number_said, order_said, has_only, options_of, job_name_of, job_named, job_if_only, job_said, job_of}
+use Rattle.program_runs.specs.declared.program.Program.{Program}
 use Rattle.gluon_top.specs.declared.task.Task.{Task}
 use Rattle.gluon_top.specs.declared.task.Task.TheVariants as task
-use Rattle.gluon_top.specs.Tasks.{is_default, task_of_job, task_of}
+use Rattle.gluon_top.specs.Tasks.{task_of_job, task_of}
+
+-- a run is over 1 to 64 hosts, and may have at least a round
+pub record IsRunnable (run : RunWords) : Type 0 where
+  pub hosts : IsHostCount run.hosts
+  pub rounds : IfSome run.rounds (λ rounds. 1 ≤ rounds)
 
 -- a job that is shared out has hosts
 abbrev HasHosts : Option Job → Type 0
+HasHosts (Some (job.Bfs root run)) = IsRunnable run
+HasHosts (Some (job.Sssp root run)) = IsRunnable run
+HasHosts (Some (job.Cc run)) = IsRunnable run
 HasHosts (Some (job.Owners hosts rules)) = IsHostCount hosts
 HasHosts (Some (job.Proxies hosts rules way)) = IsHostCount hosts
 HasHosts _ = Unit {0}
@@ -41,6 +51,17 @@ hosts_counted (Some text) n e =
       few_hosts = omega (arith, p.1, leb-true value 64 low.1);
     }
 
+-- a number of rounds that is said, or is not
+rounds_counted : (text : Option Text) (rounds : Option ℕ) → rounds_said text ≡ Some rounds → IfSome rounds (λ rounds. 1 ≤ rounds)
+rounds_counted None rounds e = let none : rounds ≡ None = cc in rw none tt
+rounds_counted (Some text) rounds e =
+    let value : ℕ = digits_value 10 text in
+    said _ value (λ passes. let low = and_parts _ (nat_le value greatest) passes in leb-true 1 value (and_parts _ (nat_le 1 value) low.0).1) rounds e
+  where
+    said : (test : Bool) (value : ℕ) → (test ≡ true → 1 ≤ value) → (rounds : Option ℕ) → option_map (λ rounds. Some rounds) (cond test (Some value) None) ≡ Some rounds → IfSome rounds (λ rounds. 1 ≤ rounds)
+    said true value some rounds e = let is : rounds ≡ Some value = cc in rw is (some refl)
+    said false value some rounds e = cc
+
 -- what comes of each, comes of any
 each_has : {A : Type 0} (f : A → Option Job) (o : Option A) → ((x : A) → o ≡ Some x → HasHosts (f x)) → HasHosts (option_and_then f o)
 each_has f None each = tt
@@ -57,6 +78,31 @@ never e = cc
 abbrev known : {N : Type 0} (o : Option N) → is_some o ≡ true → N
 known (Some name) there = name
 known None there = absurd (never there)
+
+-- what comes of each way that a run is said, comes of any
+run_has : (f : RunWords → Option Job) (auto : Way) (say : Said) → ((run : RunWords) → IsRunnable run → HasHosts (f run)) → HasHosts (option_and_then f (run_said auto say))
+run_has f auto say each = by_hosts (hosts_said say) (λ hosts is. hosts_counted (say (codes "hosts")) hosts is)
+  where
+    by_rounds : (hosts : ℕ) → IsHostCount hosts → (rules : Rules) (way : Way) (rounds : Option (Option ℕ)) → ((count : Option ℕ) → rounds ≡ Some count → IfSome count (λ rounds. 1 ≤ rounds)) → (order : Option ℕ) →
+        HasHosts (option_and_then f (option_and_then (λ rounds. option_and_then (λ order. Some (record { hosts = hosts; rules = rules; way = way; rounds = rounds; order = order; report = is_some (say (codes "report")); trace = is_some (say (codes "trace")) })) order) rounds))
+    by_rounds hosts counted rules way None each_rounds order = tt
+    by_rounds hosts counted rules way (Some count) each_rounds None = tt
+    by_rounds hosts counted rules way (Some count) each_rounds (Some order) = each _ (record { hosts = counted; rounds = each_rounds count refl })
+
+    by_rules : (hosts : ℕ) → IsHostCount hosts → (rules : Option Rules) (way : Option Way) →
+        HasHosts (option_and_then f (option_and_then (λ rules. option_and_then (λ way. option_and_then (λ rounds. option_and_then (λ order. Some (record { hosts = hosts; rules = rules; way = way; rounds = rounds; order = order; report = is_some (say (codes "report")); trace = is_some (say (codes "trace")) })) (order_said say)) (rounds_said (say (codes "rounds")))) way) rules))
+    by_rules hosts counted None way = tt
+    by_rules hosts counted (Some rules) None = tt
+    by_rules hosts counted (Some rules) (Some way) = by_rounds hosts counted rules way (rounds_said (say (codes "rounds"))) (λ count is. rounds_counted (say (codes "rounds")) count is) (order_said say)
+
+    by_hosts : (hosts : Option ℕ) → ((n : ℕ) → hosts ≡ Some n → IsHostCount n) →
+        HasHosts (option_and_then f (option_and_then (λ hosts. option_and_then (λ rules. option_and_then (λ way. option_and_then (λ rounds. option_and_then (λ order. Some (record { hosts = hosts; rules = rules; way = way; rounds = rounds; order = order; report = is_some (say (codes "report")); trace = is_some (say (codes "trace")) })) (order_said say)) (rounds_said (say (codes "rounds")))) (way_of auto (say (codes "way")))) (rules_said say)) hosts))
+    by_hosts None each_hosts = tt
+    by_hosts (Some hosts) each_hosts = by_rules hosts (each_hosts hosts refl) (rules_said say) (way_of auto (say (codes "way")))
+
+-- so it is with a root
+rooted_has : (f : ℕ → RunWords → Job) (root : Option ℕ) (say : Said) → ((root : ℕ) (run : RunWords) → IsRunnable run → HasHosts (Some (f root run))) → HasHosts (option_and_then (λ root. option_and_then (λ run. Some (f root run)) (run_said Outward say)) root)
+rooted_has f root say each = each_has (λ root. option_and_then (λ run. Some (f root run)) (run_said Outward say)) root (λ root is. run_has (λ run. Some (f root run)) Outward say (each root))
 
 -- the name of the first text that is the word
 abbrev first_named : {N : Type 0} → Text → List (Text × N) → Option N
@@ -109,11 +155,11 @@ word_has_hosts say word =
     ∷ (codes "cc", known (job_name_of (codes "cc")) refl) ∷ (codes "kcore", known (job_name_of (codes "kcore")) refl)
     ∷ (codes "owners", known (job_name_of (codes "owners")) refl) ∷ (codes "proxies", known (job_name_of (codes "proxies")) refl)
     ∷ (codes "make", known (job_name_of (codes "make")) refl) ∷ (codes "selfrun", known (job_name_of (codes "selfrun")) refl) ∷ []) (
-      named_has options_of job_named say (known (job_name_of (codes "bfs")) refl) (two job.Bfs (λ root run. tt) (number_needed 0 greatest (say (codes "root"))) (run_said Outward say)),
+      named_has options_of job_named say (known (job_name_of (codes "bfs")) refl) (rooted_has job.Bfs (number_needed 0 greatest (say (codes "root"))) say (λ root run fact. fact)),
       (
-        named_has options_of job_named say (known (job_name_of (codes "sssp")) refl) (two job.Sssp (λ root run. tt) (number_needed 0 greatest (say (codes "root"))) (run_said Outward say)),
+        named_has options_of job_named say (known (job_name_of (codes "sssp")) refl) (rooted_has job.Sssp (number_needed 0 greatest (say (codes "root"))) say (λ root run fact. fact)),
         (
-          named_has options_of job_named say (known (job_name_of (codes "cc")) refl) (each_has (λ run. Some (job.Cc run)) (run_said Both say) (λ run is. tt)),
+          named_has options_of job_named say (known (job_name_of (codes "cc")) refl) (run_has (λ run. Some (job.Cc run)) Both say (λ run fact. fact)),
           (
             named_has options_of job_named say (known (job_name_of (codes "kcore")) refl) (two job.Kcore (λ k run. tt) (number_needed 0 greatest (say (codes "k"))) (run_said Outward say)),
             (
@@ -144,24 +190,25 @@ words_have_hosts words =
 
 -- a task over a graph that is shared out has hosts
 abbrev TaskHasHosts : Option Task → Type 0
+TaskHasHosts (Some (task.Run program run)) = IsRunnable run
 TaskHasHosts (Some (task.Owners hosts rules)) = IsHostCount hosts
 TaskHasHosts (Some (task.Proxies hosts rules way)) = IsHostCount hosts
 TaskHasHosts _ = Unit {0}
 
-of_search : (test : Bool) (root : ℕ) → TaskHasHosts (cond test (Some (task.Search root)) None)
-of_search true root = tt
-of_search false root = tt
-
 of_job : (o : Option Job) → HasHosts o → TaskHasHosts (option_and_then task_of_job o)
 of_job None h = tt
-of_job (Some (job.Bfs root run)) h = of_search (is_default run) root
-of_job (Some (job.Sssp root run)) h = tt
-of_job (Some (job.Cc run)) h = tt
+of_job (Some (job.Bfs root run)) h = h
+of_job (Some (job.Sssp root run)) h = h
+of_job (Some (job.Cc run)) h = h
 of_job (Some (job.Kcore k run)) h = tt
 of_job (Some (job.Owners hosts rules)) h = h
 of_job (Some (job.Proxies hosts rules way)) h = h
 of_job (Some (job.Make size number)) h = tt
 of_job (Some (job.Selfrun size number hosts rules order)) h = tt
+
+-- a program runs over 1 to 64 hosts, and may have at least a round
+pub run_in_range : (words : List (List ℕ)) (program : Program) (run : RunWords) → task_of words ≡ Some (task.Run program run) → IsRunnable run
+run_in_range words program run e = subst TaskHasHosts e (of_job (job_of words) (words_have_hosts words))
 
 -- masters and owners are told of 1 to 64 hosts
 pub hosts_in_range : (words : List (List ℕ)) (hosts : ℕ) (rules : Rules) → task_of words ≡ Some (task.Owners hosts rules) → IsHostCount hosts

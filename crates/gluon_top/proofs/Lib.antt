@@ -1,10 +1,9 @@
-pub mod LevelsPlaces
-pub mod LevelsHeads
-pub mod LevelsSearch
-pub mod LevelsLeast
 pub mod AnswerLines
 pub mod Loading
 pub mod Sizes
+pub mod Divisions
+pub mod Running
+pub mod WalksEnd
 pub mod Outcomes
 pub mod HostRanges
 pub mod OwnerLines

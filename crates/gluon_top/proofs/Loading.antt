@@ -1,8 +1,8 @@
 -- From what the reader says of the head and of the rest to what the graph means, and from that to what words and
 -- bytes mean.
-use Rattle.std.proofs.Common.{◌≡◌, ◌⊎◌, inl, inr, ℕ, ◌+◌, ◌<◌, ◌≤◌, List, Option, Some, None, Result, Ok, Err, IfSome, Bool, true, false, nat_lt, refl, arith, drop, sym, ap, length}
-use Rattle.std.specs.Prelude.{IsSomeAnd, ◌==◌, ◌||◌, nat_le}
-use Rattle.std.proofs.lemmas.Bool.{lt-ltb, le-ltb}
+use Rattle.std.proofs.Common.{◌≡◌, ◌⊎◌, inl, inr, ℕ, ◌+◌, List, Option, Some, None, Result, Ok, Err, IfSome, Bool, true, false, nat_lt, refl, arith, drop, sym, ap, length}
+use Rattle.std.specs.Prelude.{IsSomeAnd, ◌==◌, ◌||◌, nat_le, if◌then◌else◌, Vec}
+use Rattle.std.specs.Global.{Global}
 use Rattle.std.proofs.lemmas.Option.{IfSome_then}
 use Rattle.graph_model.specs.Graph.{Graph, most_nodes, most_edges}
 use Rattle.gr_reader.specs.declared.head.Head.{Head}
@@ -12,9 +12,12 @@ use Rattle.gr_reader.specs.declared.section.Section.TheVariants as section
 use Rattle.gr_reader.specs.Cause as causes
 use Rattle.gr_reader.specs.File.{◌>>=◌, demand, long_at, head_at, rest_at, file_at}
 use Rattle.gr_reader.specs.Reading.{Means, Refuses}
-use Rattle.gr_reader.specs.Reach.{TakesAtMost, reach, file_reach}
+use Rattle.gr_reader.specs.Reach.{TakesAtMost, reach}
 use Rattle.gr_reader.proofs.TakingLaws.{TakesAtMost-then}
 use Rattle.edge_owner.specs.declared.rules.Rules.{Rules}
+use Rattle.command_words.specs.declared.job.RunWords.{RunWords}
+use Rattle.program_runs.specs.declared.program.Program.{Program}
+use Rattle.program_runs.specs.Programs.{root_of}
 use Rattle.graph_model.specs.declared.edge.Way.{Way}
 use Rattle.graph_division.specs.Shares.{Share}
 use Rattle.partition_build.specs.Meant.{shared}
@@ -26,10 +29,13 @@ use Rattle.gluon_top.specs.declared.fault.Fault.TheVariants.{Words, Root, Input,
 use Rattle.gluon_top.specs.declared.task.Task.TheVariants as task
 use Rattle.gluon_top.specs.Fault.{Cause, Meant, FailedRead, NoMemory, cause_of, cause_of_input}
 use Rattle.gluon_top.specs.Tasks.{task_of, reads_input}
-use Rattle.gluon_top.specs.Meaning.{searched, generated, owned, divided, answer_lines, answer_of, of_input, graph_of, meaning_of, OfBytes, OfInput}
+use Rattle.gluon_top.specs.Answers.{text_of}
+use Rattle.gluon_top.specs.declared.answers.Answers.{Answers}
+use Rattle.gluon_top.specs.declared.prepared.Prepared.TheVariants.{Run, Told}
+use Rattle.gluon_top.specs.Meaning.{ran, generated, owned, divided, answer_of, of_input, demand_node, graph_of, meaning_of, OfBytes, OfInput}
 use Rattle.gluon_top.specs.Outcome.{IfMeant, Stops, Finds, LeftAfter}
 use Rattle.gluon_top.specs.Owners.{owners_text}
-use Rattle.gluon_top.specs.Search.{Loads, FoundDistances}
+use Rattle.gluon_top.specs.Loaded.{Loads, FoundShares}
 
 -- what follows from a fault that bytes have, of a fault of the call
 input_stops : (cause : causes.Cause) (P Q : Type 0) → (P → Q) → causes.IfBytes cause P → IfMeant (cause_of_input cause) Q
@@ -49,7 +55,7 @@ IfMeant-map FailedRead P Q follows p = tt
 IfMeant-map NoMemory P Q follows p = tt
 
 -- the head is refused
-pub head_stops : (root : ℕ) (left after : Option (List ℕ)) (fault : GrFault) →
+pub head_stops : (root : Option ℕ) (left after : Option (List ℕ)) (fault : GrFault) →
     IfSome left (λ bytes. Means {X = Head} {Y = Head} (λ head. head) (Err fault) after (head_at bytes)) →
     IfSome left (λ bytes. Loads (Err (Input fault)) after (graph_of root bytes))
 unfolding graph_of
@@ -57,35 +63,42 @@ head_stops root left after fault means = IfSome_then left means (λ bytes refuse
     stops fault (head_at bytes) (graph_of root bytes) (λ is. rw is refl) refuses)
 
 -- the root is no node
-pub root_stops : (root : ℕ) (left after : Option (List ℕ)) (head : Head) → head.nodes ≤ root →
+pub root_stops : (root : Option ℕ) (left after : Option (List ℕ)) (head : Head) (fault : Fault) → demand_node root head.nodes ≡ Err fault →
     IfSome left (λ bytes. Means {X = Head} {Y = Head} (λ head. head) (Ok head) after (head_at bytes)) →
-    IfSome left (λ bytes. Loads (Err (Root root head.nodes)) after (graph_of root bytes))
+    IfSome left (λ bytes. Loads (Err fault) after (graph_of root bytes))
 unfolding graph_of
-root_stops root left None head above means = IfSome_then left means (λ bytes found. absurd found)
-root_stops root left (Some rest) head above means = IfSome_then left means (λ bytes found.
-    let outside : nat_lt root head.nodes ≡ false = le-ltb root head.nodes above in rw (found, outside) refl)
+root_stops root left after head fault refused means = IfSome_then left means (λ bytes found. outside root after head fault refused bytes found)
+  where
+    outside : (root : Option ℕ) (after : Option (List ℕ)) (head : Head) (fault : Fault) → demand_node root head.nodes ≡ Err fault → (bytes : List ℕ) → Means {X = Head} {Y = Head} (λ head. head) (Ok head) after (head_at bytes) → Stops fault (graph_of root bytes)
+    outside root None head fault refused bytes found = absurd found
+    outside root (Some rest) head fault refused bytes found =
+        let is : graph_of root bytes ≡ Err fault = rw (found, refused) refl in
+        always (cause_of fault) is
+      where
+        always : (cause : Cause) → graph_of root bytes ≡ Err fault → IfMeant cause (graph_of root bytes ≡ Err fault)
+        always Meant p = p
+        always FailedRead p = tt
+        always NoMemory p = tt
 
 -- what follows the head is refused
-pub rest_stops : (root : ℕ) (left between after : Option (List ℕ)) (head : Head) (fault : GrFault) → root < head.nodes →
+pub rest_stops : (root : Option ℕ) (left between after : Option (List ℕ)) (head : Head) (fault : GrFault) → demand_node root head.nodes ≡ Ok tt →
     IfSome left (λ bytes. Means {X = Head} {Y = Head} (λ head. head) (Ok head) between (head_at bytes)) →
     IfSome between (λ bytes. Means {X = Graph} {Y = Graph} (λ graph. graph) (Err fault) after (rest_at head bytes)) →
     IfSome left (λ bytes. Loads (Err (Input fault)) after (graph_of root bytes))
 unfolding graph_of
 rest_stops root left None after head fault node means refuses = IfSome_then left means (λ bytes found. absurd found)
 rest_stops root left (Some rest) after head fault node means refuses = IfSome_then left means (λ bytes found.
-    let inside : nat_lt root head.nodes ≡ true = lt-ltb root head.nodes node in
-    stops fault (rest_at head rest) (graph_of root bytes) (λ is. rw (found, inside, is) refl) refuses)
+    stops fault (rest_at head rest) (graph_of root bytes) (λ is. rw (found, node, is) refl) refuses)
 
 -- the graph is loaded
-pub loads : (root : ℕ) (left between after : Option (List ℕ)) (head : Head) (graph : Graph) → root < head.nodes →
+pub loads : (root : Option ℕ) (left between after : Option (List ℕ)) (head : Head) (graph : Graph) → demand_node root head.nodes ≡ Ok tt →
     IfSome left (λ bytes. Means {X = Head} {Y = Head} (λ head. head) (Ok head) between (head_at bytes)) →
     IfSome between (λ bytes. Means {X = Graph} {Y = Graph} (λ graph. graph) (Ok graph) after (rest_at head bytes)) →
     IfSome left (λ bytes. Loads (Ok graph) after (graph_of root bytes))
 unfolding graph_of
 loads root left None after head graph node means loaded = IfSome_then left means (λ bytes found. absurd found)
 loads root left (Some rest) None head graph node means loaded = IfSome_then left means (λ bytes found. absurd loaded)
-loads root left (Some rest) (Some last) head graph node means loaded = IfSome_then left means (λ bytes found.
-    let inside : nat_lt root head.nodes ≡ true = lt-ltb root head.nodes node in rw (found, inside, loaded) refl)
+loads root left (Some rest) (Some last) head graph node means loaded = IfSome_then left means (λ bytes found. rw (found, node, loaded) refl)
 
 -- ---- what is left after a fault
 
@@ -126,13 +139,27 @@ head_left None after fault means taken = input_stops (causes.cause_of fault) _ _
     IfBytes-all causes.NoMemory = tt
 head_left (Some bytes) after fault means taken = input_stops (causes.cause_of fault) _ _ (λ is. rw is taken) means
 
+-- what is demanded of a root, by whether it is a node
+abbrev node_or_fault : (below : Bool) (root nodes : ℕ) → Result (Unit {0}) Fault
+node_or_fault below root nodes = if below then Ok tt else Err (Root root nodes)
+
+refused_root : (below : Bool) (root nodes : ℕ) (fault : Fault) → node_or_fault below root nodes ≡ Err fault → fault ≡ Root root nodes
+refused_root true root nodes fault e = cc
+refused_root false root nodes fault e = cc
+
 -- the root is no node
-pub root_left : (root : ℕ) (left after : Option (List ℕ)) (head : Head) →
+pub root_left : (root : Option ℕ) (left after : Option (List ℕ)) (head : Head) (fault : Fault) → demand_node root head.nodes ≡ Err fault →
     IfSome left (λ bytes. Means {X = Head} {Y = Head} (λ head. head) (Ok head) after (head_at bytes)) →
-    IfSome left (λ bytes. LeftAfter bytes (Root root head.nodes) after)
-root_left root None after head means = tt
-root_left root (Some bytes) None head means = absurd means
-root_left root (Some bytes) (Some rest) head means = ap Some (head_rest bytes rest head means)
+    IfMeant (cause_of fault) (IfSome left (λ bytes. LeftAfter bytes fault after))
+root_left None left after head fault refused means = cc
+root_left (Some root) left after head fault refused means =
+    let is : fault ≡ Root root head.nodes = refused_root (nat_lt root head.nodes) root head.nodes fault refused in
+    rw is (behind left after means)
+  where
+    behind : (left after : Option (List ℕ)) → IfSome left (λ bytes. Means {X = Head} {Y = Head} (λ head. head) (Ok head) after (head_at bytes)) → IfSome left (λ bytes. LeftAfter bytes (Root root head.nodes) after)
+    behind None after means = tt
+    behind (Some bytes) None means = absurd means
+    behind (Some bytes) (Some rest) means = ap Some (head_rest bytes rest head means)
 
 -- a fault of what follows the head
 pub rest_left : (left between after : Option (List ℕ)) (head : Head) (fault : GrFault) →
@@ -159,120 +186,88 @@ rest_left (Some bytes) (Some rest) after head fault means first second =
 -- ---- what words and bytes mean
 
 -- the words are refused
-pub words_stops : {X : Type 0} (text_of : X → List ℕ) (words : List (List ℕ)) (left after : Option (List ℕ)) → task_of words ≡ None →
-    OfInput words left (λ bytes. Finds text_of (Err Words) after (meaning_of words bytes))
+pub words_stops : (words : List (List ℕ)) (left after : Option (List ℕ)) → task_of words ≡ None →
+    OfInput words left (λ bytes. Finds (Err Words) after (meaning_of words bytes))
 unfolding meaning_of
-words_stops text_of words left after none = rw none refl
+words_stops words left after none = rw none refl
 
 -- want of memory says nothing of them
-pub memory_stops : {X : Type 0} (text_of : X → List ℕ) (words : List (List ℕ)) (left after : Option (List ℕ)) →
-    OfInput words left (λ bytes. Finds text_of (Err Memory) after (meaning_of words bytes))
-memory_stops text_of words left after = always (reads_input (task_of words)) left
+pub memory_stops : (words : List (List ℕ)) (left after : Option (List ℕ)) →
+    OfInput words left (λ bytes. Finds (Err Memory) after (meaning_of words bytes))
+memory_stops words left after = always (reads_input (task_of words)) left
   where
-    always : (needed : Bool) (left : Option (List ℕ)) → OfBytes needed left (λ bytes. Finds text_of (Err Memory) after (meaning_of words bytes))
+    always : (needed : Bool) (left : Option (List ℕ)) → OfBytes needed left (λ bytes. Finds (Err Memory) after (meaning_of words bytes))
     always true None = tt
     always true (Some bytes) = tt
     always false left = tt
 
--- the distances are found
-pub distances_found : {X : Type 0} (text_of : X → List ℕ) (words : List (List ℕ)) (root : ℕ) (left after : Option (List ℕ)) (x : X) (distances : List (Option ℕ)) → task_of words ≡ Some (task.Search root) →
-    text_of x ≡ answer_lines 0 distances →
-    IfSome left (λ bytes. FoundDistances root distances after (graph_of root bytes)) →
-    OfInput words left (λ bytes. Finds text_of (Ok x) after (meaning_of words bytes))
+-- hosts hold the graph on which a program is to run
+pub run_ready : (words : List (List ℕ)) (program : Program) (run : RunWords) (left after : Option (List ℕ)) (graphs : Vec Share Global) → task_of words ≡ Some (task.Run program run) →
+    IfSome left (λ bytes. FoundShares run.rules run.hosts graphs.items after (graph_of (root_of program) bytes)) →
+    OfInput words left (λ bytes. Finds (Ok (Run program run graphs)) after (meaning_of words bytes))
 unfolding meaning_of answer_of
-distances_found text_of words root left after x distances asked text found =
+run_ready words program run left after graphs asked found =
     rw asked (IfSome_then left found (λ bytes f. (
-      searched root f.graph f.after,
+      ran program run f.graph f.after,
       rw f.means refl,
       f.leaves,
-      record { distances = distances; least = f.levels; lines = text },
+      record { same_program = refl; same_words = refl; is_graph = f.is_graph; shared_out = f.shared_out },
     )))
 
--- the search has a fault
-pub search_stops : {X : Type 0} (text_of : X → List ℕ) (words : List (List ℕ)) (root : ℕ) (left after : Option (List ℕ)) (fault : Fault) → task_of words ≡ Some (task.Search root) →
-    IfSome left (λ bytes. Stops fault (graph_of root bytes)) →
-    OfInput words left (λ bytes. Finds text_of (Err fault) after (meaning_of words bytes))
+-- the graph of a run has a fault
+pub run_stops : (words : List (List ℕ)) (program : Program) (run : RunWords) (left after : Option (List ℕ)) (fault : Fault) → task_of words ≡ Some (task.Run program run) →
+    IfSome left (λ bytes. Stops fault (graph_of (root_of program) bytes)) →
+    OfInput words left (λ bytes. Finds (Err fault) after (meaning_of words bytes))
 unfolding meaning_of answer_of
-search_stops text_of words root left after fault asked stopped =
+run_stops words program run left after fault asked stopped =
     rw asked (IfSome_then left stopped (λ bytes stop. IfMeant-map (cause_of fault) _ _ (λ is. rw is refl) stop))
 
 -- the graph is made
-pub graph_made : {X : Type 0} (text_of : X → List ℕ) (words : List (List ℕ)) (size number : ℕ) (left after : Option (List ℕ)) (x : X) → task_of words ≡ Some (task.Make size number) →
+pub graph_made : (words : List (List ℕ)) (size number : ℕ) (left after : Option (List ℕ)) (x : Answers) → task_of words ≡ Some (task.Make size number) →
     text_of x ≡ file_of 4 (made_graph size number) →
-    OfInput words left (λ bytes. Finds text_of (Ok x) after (meaning_of words bytes))
+    OfInput words left (λ bytes. Finds (Ok (Told x)) after (meaning_of words bytes))
 unfolding meaning_of answer_of
-graph_made text_of words size number left after x asked text =
+graph_made words size number left after x asked text =
     rw asked (generated (made_graph size number), refl, tt, text)
 
--- a whole file is refused
-pub file_stops : (left after : Option (List ℕ)) (fault : GrFault) →
-    IfSome left (λ bytes. Means {X = Graph} {Y = Graph} (λ graph. graph) (Err fault) after (file_at bytes)) →
-    IfSome left (λ bytes. Stops (Input fault) (of_input (file_at bytes)))
-file_stops left after fault means = IfSome_then left means (λ bytes refuses.
-    stops fault (file_at bytes) (of_input (file_at bytes)) (λ is. rw is refl) refuses)
-
--- a whole file is read
-pub file_loads : (left after : Option (List ℕ)) (graph : Graph) →
-    IfSome left (λ bytes. Means {X = Graph} {Y = Graph} (λ graph. graph) (Ok graph) after (file_at bytes)) →
-    IfSome left (λ bytes. IsSomeAnd after (λ rest. of_input (file_at bytes) ≡ Ok (graph, rest)))
-file_loads left None graph means = IfSome_then left means (λ bytes found. absurd found)
-file_loads left (Some rest) graph means = IfSome_then left means (λ bytes found. rw found refl)
-
--- a fault of a whole file
-pub file_left : (left after : Option (List ℕ)) (fault : GrFault) →
-    TakesAtMost (file_reach {X = Graph} left (Err fault)) left after →
-    IfMeant (cause_of (Input fault)) (IfSome left (λ bytes. LeftAfter bytes (Input fault) after))
-file_left None after fault taken = always (cause_of (Input fault))
-  where
-    always : (cause : Cause) → IfMeant cause (Unit {0})
-    always Meant = tt
-    always FailedRead = tt
-    always NoMemory = tt
-file_left (Some bytes) after fault taken = always (cause_of (Input fault)) taken
-  where
-    always : (cause : Cause) → LeftAfter bytes (Input fault) after → IfMeant cause (LeftAfter bytes (Input fault) after)
-    always Meant p = p
-    always FailedRead p = tt
-    always NoMemory p = tt
-
 -- masters and owners are found
-pub owners_found : {X : Type 0} (text_of : X → List ℕ) (words : List (List ℕ)) (rules : Rules) (hosts : ℕ) (left after : Option (List ℕ)) (x : X) (graph : Graph) → task_of words ≡ Some (task.Owners hosts rules) →
+pub owners_found : (words : List (List ℕ)) (rules : Rules) (hosts : ℕ) (left after : Option (List ℕ)) (x : Answers) (graph : Graph) → task_of words ≡ Some (task.Owners hosts rules) →
     text_of x ≡ owners_text rules hosts graph →
     IfSome left (λ bytes. IsSomeAnd after (λ rest. of_input (file_at bytes) ≡ Ok (graph, rest))) →
-    OfInput words left (λ bytes. Finds text_of (Ok x) after (meaning_of words bytes))
+    OfInput words left (λ bytes. Finds (Ok (Told x)) after (meaning_of words bytes))
 unfolding meaning_of answer_of
-owners_found text_of words rules hosts left None x graph asked text found = rw asked (IfSome_then left found (λ bytes f. absurd f))
-owners_found text_of words rules hosts left (Some rest) x graph asked text found =
+owners_found words rules hosts left None x graph asked text found = rw asked (IfSome_then left found (λ bytes f. absurd f))
+owners_found words rules hosts left (Some rest) x graph asked text found =
     rw asked (IfSome_then left found (λ bytes is. (owned rules hosts graph rest, rw is refl, refl, text)))
 
 -- the file has a fault
-pub owners_stop : {X : Type 0} (text_of : X → List ℕ) (words : List (List ℕ)) (rules : Rules) (hosts : ℕ) (left after : Option (List ℕ)) (fault : Fault) → task_of words ≡ Some (task.Owners hosts rules) →
+pub owners_stop : (words : List (List ℕ)) (rules : Rules) (hosts : ℕ) (left after : Option (List ℕ)) (fault : Fault) → task_of words ≡ Some (task.Owners hosts rules) →
     IfSome left (λ bytes. Stops fault (of_input (file_at bytes))) →
-    OfInput words left (λ bytes. Finds text_of (Err fault) after (meaning_of words bytes))
+    OfInput words left (λ bytes. Finds (Err fault) after (meaning_of words bytes))
 unfolding meaning_of answer_of
-owners_stop text_of words rules hosts left after fault asked stopped =
+owners_stop words rules hosts left after fault asked stopped =
     rw asked (IfSome_then left stopped (λ bytes stop. IfMeant-map (cause_of fault) _ _ (λ is. rw is refl) stop))
 
 -- proxies and lists are found
-pub proxies_found : {X : Type 0} (text_of : X → List ℕ) (words : List (List ℕ)) (rules : Rules) (hosts : ℕ) (way : Way) (left after : Option (List ℕ)) (x : X) (shares : List Share) → task_of words ≡ Some (task.Proxies hosts rules way) →
+pub proxies_found : (words : List (List ℕ)) (rules : Rules) (hosts : ℕ) (way : Way) (left after : Option (List ℕ)) (x : Answers) (shares : List Share) → task_of words ≡ Some (task.Proxies hosts rules way) →
     text_of x ≡ partition_text way shares →
     IfSome left (λ bytes. IsSomeAnd after (λ rest. of_input (shared rules hosts (file_at bytes)) ≡ Ok (shares, rest))) →
-    OfInput words left (λ bytes. Finds text_of (Ok x) after (meaning_of words bytes))
+    OfInput words left (λ bytes. Finds (Ok (Told x)) after (meaning_of words bytes))
 unfolding meaning_of answer_of
-proxies_found text_of words rules hosts way left None x shares asked text found = rw asked (IfSome_then left found (λ bytes f. absurd f))
-proxies_found text_of words rules hosts way left (Some rest) x shares asked text found =
+proxies_found words rules hosts way left None x shares asked text found = rw asked (IfSome_then left found (λ bytes f. absurd f))
+proxies_found words rules hosts way left (Some rest) x shares asked text found =
     rw asked (IfSome_then left found (λ bytes is. (divided way shares rest, rw is refl, refl, text)))
 
 -- the file has a fault
-pub proxies_stop : {X : Type 0} (text_of : X → List ℕ) (words : List (List ℕ)) (rules : Rules) (hosts : ℕ) (way : Way) (left after : Option (List ℕ)) (fault : Fault) → task_of words ≡ Some (task.Proxies hosts rules way) →
+pub proxies_stop : (words : List (List ℕ)) (rules : Rules) (hosts : ℕ) (way : Way) (left after : Option (List ℕ)) (fault : Fault) → task_of words ≡ Some (task.Proxies hosts rules way) →
     IfSome left (λ bytes. Stops fault (of_input (shared rules hosts (file_at bytes)))) →
-    OfInput words left (λ bytes. Finds text_of (Err fault) after (meaning_of words bytes))
+    OfInput words left (λ bytes. Finds (Err fault) after (meaning_of words bytes))
 unfolding meaning_of answer_of
-proxies_stop text_of words rules hosts way left after fault asked stopped =
+proxies_stop words rules hosts way left after fault asked stopped =
     rw asked (IfSome_then left stopped (λ bytes stop. IfMeant-map (cause_of fault) _ _ (λ is. rw is refl) stop))
 
 -- refused words, or want of memory
-pub refused_stops : {X : Type 0} (text_of : X → List ℕ) (words : List (List ℕ)) (left after : Option (List ℕ)) (fault : Fault) → (fault ≡ Words) ⊎ (fault ≡ Memory) → (fault ≡ Words → task_of words ≡ None) →
-    OfInput words left (λ bytes. Finds text_of (Err fault) after (meaning_of words bytes))
-refused_stops text_of words left after fault (inl is) none = rw is (words_stops text_of words left after (none is))
-refused_stops text_of words left after fault (inr is) none = rw is (memory_stops text_of words left after)
+pub refused_stops : (words : List (List ℕ)) (left after : Option (List ℕ)) (fault : Fault) → (fault ≡ Words) ⊎ (fault ≡ Memory) → (fault ≡ Words → task_of words ≡ None) →
+    OfInput words left (λ bytes. Finds (Err fault) after (meaning_of words bytes))
+refused_stops words left after fault (inl is) none = rw is (words_stops words left after (none is))
+refused_stops words left after fault (inr is) none = rw is (memory_stops words left after)

@@ -4,28 +4,28 @@ use Rattle.graph_model.specs.Graph.{Graph}
 use Rattle.graph_model.specs.declared.edge.Way.{Way}
 use Rattle.graph_division.specs.Shares.{Share}
 use Rattle.gr_reader.specs.declared.fault.GrFault.{GrFault}
-use Rattle.gr_reader.specs.declared.head.Head.{Head}
 use Rattle.gr_reader.specs.File.{head_at, rest_at, file_at}
 use Rattle.gr_writer.specs.File.{file_of}
 use Rattle.graph_maker.specs.MadeGraph.{made_graph}
-use Rattle.answer_writer.specs.Lines.{answer_line}
+use Rattle.command_words.specs.declared.job.RunWords.{RunWords}
 use Rattle.edge_owner.specs.declared.rules.Rules.{Rules}
 use Rattle.partition_build.specs.Meant.{shared}
 use Rattle.partition_text.specs.Text.{partition_text}
+use Rattle.program_runs.specs.declared.program.Program.{Program}
+use Rattle.program_runs.specs.Programs.{root_of}
 use Rattle.gluon_top.specs.declared.fault.Fault.{Fault}
 use Rattle.gluon_top.specs.declared.fault.Fault.TheVariants.{Words, Root, Input}
 use Rattle.gluon_top.specs.declared.task.Task.{Task}
 use Rattle.gluon_top.specs.declared.task.Task.TheVariants as task
 use Rattle.gluon_top.specs.Fault.{fault_line, status_of}
 use Rattle.gluon_top.specs.Tasks.{task_of, reads_input}
-use Rattle.gluon_top.specs.Distances.{AreLevels}
-use Rattle.gluon_top.specs.Numbered.{numbered}
 use Rattle.gluon_top.specs.Owners.{owners_text}
+use Rattle.gluon_top.specs.Runs.{IsRunText}
 
 -- what a task comes to
 pub data Answer : Type 0 where
-  -- the distances from a root in the graph of the input, behind whose file these bytes are left
-  searched : (root : ℕ) (graph : Graph) (after : List ℕ) → Answer
+  -- a run of a program on the graph of the input, behind whose file these bytes are left
+  ran : (program : Program) (run : RunWords) (graph : Graph) (after : List ℕ) → Answer
   -- a made graph
   generated : (graph : Graph) → Answer
   -- who has each vertex and each edge of the graph of the input, behind whose file these bytes are left
@@ -49,23 +49,24 @@ abbrev pub demand_task : Option Task → Result Task Fault
 demand_task (Some task) = Ok task
 demand_task None = Err Words
 
--- nothing where the root is a node, else the fault
-abbrev pub demand_node : ℕ → Head → Result (Unit {0}) Fault
-demand_node root head = if nat_lt root head.nodes then Ok tt else Err (Root root head.nodes)
+-- nothing where there is no root or the root is a node, else the fault
+abbrev pub demand_node : Option ℕ → (nodes : ℕ) → Result (Unit {0}) Fault
+demand_node None nodes = Ok tt
+demand_node (Some root) nodes = if nat_lt root nodes then Ok tt else Err (Root root nodes)
 
 -- The graph that the bytes have and the bytes after it, or the first fault: of the head, of the root, of
 -- what follows the head.
-unfoldable pub graph_of : ℕ → List ℕ → Result (Graph × List ℕ) Fault
+unfoldable pub graph_of : Option ℕ → List ℕ → Result (Graph × List ℕ) Fault
 graph_of root bytes = do
   head ← of_input (head_at bytes)
-  _ ← demand_node root head.0
+  _ ← demand_node root head.0.nodes
   of_input (rest_at head.0 head.1)
 
 -- what a task comes to on these bytes, or the first fault
 unfoldable pub answer_of : Task → List ℕ → Result Answer Fault
-answer_of (task.Search root) bytes = do
-  file ← graph_of root bytes
-  Ok (searched root file.0 file.1)
+answer_of (task.Run program run) bytes = do
+  file ← graph_of (root_of program) bytes
+  Ok (ran program run file.0 file.1)
 answer_of (task.Make size number) bytes = Ok (generated (made_graph size number))
 answer_of (task.Owners hosts rules) bytes = do
   file ← of_input (file_at bytes)
@@ -80,27 +81,23 @@ meaning_of words bytes = do
   task ← demand_task (task_of words)
   answer_of task bytes
 
--- the lines of the nodes from v on: each with its distance, or `-` where it has none
-abbrev pub answer_lines : ℕ → List (Option ℕ) → List ℕ
-answer_lines v distances = numbered answer_line v distances
-
--- the text of a search
-pub record IsSearchText (root : ℕ) (graph : Graph) (text : List ℕ) : Type 0 where
-  pub distances : List (Option ℕ)
-  pub least : AreLevels graph root distances
-  pub lines : text ≡ answer_lines 0 distances
-
--- the text of an answer: a line for each node, a file with weights of four bytes, masters and owners, or proxies and
--- lists
+-- the text of an answer that is no run: a file with weights of four bytes, masters and owners, or proxies and lists
 abbrev pub IsText : Answer → List ℕ → Type 0
-IsText (searched root graph after) text = IsSearchText root graph text
+IsText (ran program run graph after) text = ⊥
 IsText (generated graph) text = text ≡ file_of 4 graph
 IsText (owned rules hosts graph after) text = text ≡ owners_text rules hosts graph
 IsText (divided way shares after) text = text ≡ partition_text way shares
 
--- the status and the text of a fault, or 0 and the text of the answer
+-- the status and the text of an answer: those of a run, and else 0 and its text
+abbrev pub MeansAnswer : Answer → ℕ → List ℕ → Type 0
+MeansAnswer (ran program run graph after) status text = IsRunText program run graph status text
+MeansAnswer (generated graph) status text = (status ≡ 0) × IsText (generated graph) text
+MeansAnswer (owned rules hosts graph after) status text = (status ≡ 0) × IsText (owned rules hosts graph after) text
+MeansAnswer (divided way shares after) status text = (status ≡ 0) × IsText (divided way shares after) text
+
+-- the status and the text of an answer or of a fault
 abbrev pub MeansText : Result Answer Fault → ℕ → List ℕ → Type 0
-MeansText (Ok answer) status text = (status ≡ 0) × IsText answer text
+MeansText (Ok answer) status text = MeansAnswer answer status text
 MeansText (Err fault) status text = (status ≡ status_of fault) × (text ≡ fault_line fault)
 
 -- the status and the text that the words and the bytes mean

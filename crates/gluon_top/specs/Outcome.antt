@@ -1,5 +1,5 @@
 -- What the parts of the top call promise: that a task comes to its answer, and that the text is written.
-use Rattle.std.specs.Prelude.{◌≡◌, ◌≢◌, ℕ, List, Option, Some, IsErrAnd, Result, Ok, Err, ◌⊎◌, drop}
+use Rattle.std.specs.Prelude.{◌≡◌, ◌≢◌, ◌<◌, ℕ, List, Option, Some, IsErrAnd, IsOkAnd, IfErr, Result, Ok, Err, ◌⊎◌, drop}
 use Rattle.io_edge.specs.Faults.{Rose}
 use Rattle.io_edge.specs.Bytes.{Gains, GainsPrefix}
 use Rattle.gr_reader.specs.Reach.{TakesAtMost, file_reach}
@@ -8,7 +8,10 @@ use Rattle.graph_model.specs.Graph.{Graph}
 use Rattle.gluon_top.specs.declared.fault.Fault.{Fault}
 use Rattle.gluon_top.specs.declared.fault.Fault.TheVariants.{Words, Root, Input, Memory}
 use Rattle.gluon_top.specs.Fault.{Cause, Meant, FailedRead, NoMemory, cause_of, fault_line, status_of}
-use Rattle.gluon_top.specs.Meaning.{Answer, searched, generated, owned, divided, IsText, Meaning, OfInput}
+use Rattle.gluon_top.specs.Runs.{budget_in, TakesRounds}
+use Rattle.gluon_top.specs.Meaning.{Answer, ran, generated, owned, divided, MeansAnswer, MeansText, Meaning, OfInput}
+use Rattle.gluon_top.specs.declared.prepared.Prepared.{Prepared}
+use Rattle.gluon_top.specs.Prepared.{IsReady}
 
 -- this holds where words and bytes are the cause
 abbrev pub IfMeant : Cause → Type 0 → Type 0
@@ -22,16 +25,16 @@ Stops fault meaning = IfMeant (cause_of fault) (meaning ≡ Err fault)
 
 -- what the source has left behind a file
 abbrev pub Leaves : Answer → Option (List ℕ) → Type 0
-Leaves (searched root graph after) left = left ≡ Some after
+Leaves (ran program run graph after) left = left ≡ Some after
 Leaves (generated graph) left = Unit {0}
 Leaves (owned rules hosts graph after) left = left ≡ Some after
 Leaves (divided way shares after) left = left ≡ Some after
 
--- The answer, seen by its text, is the one that is meant, and what the source has left is what its file does not
--- use; or the fault is what is meant, as far as no read failed and memory sufficed.
-abbrev pub Finds : {X : Type 0} → (X → List ℕ) → Result X Fault → Option (List ℕ) → Result Answer Fault → Type 0
-Finds text_of (Ok x) left meaning = (answer : Answer) × (meaning ≡ Ok answer) × Leaves answer left × IsText answer (text_of x)
-Finds text_of (Err fault) left meaning = Stops fault meaning
+-- What was prepared is what is meant, and what the source has left is what its file does not use; or the fault is what
+-- is meant, as far as no read failed and memory sufficed.
+abbrev pub Finds : Result Prepared Fault → Option (List ℕ) → Result Answer Fault → Type 0
+Finds (Ok prepared) left meaning = (answer : Answer) × (meaning ≡ Ok answer) × Leaves answer left × IsReady prepared answer
+Finds (Err fault) left meaning = Stops fault meaning
 
 -- the count of a source rose where a read failed, and stayed else
 abbrev pub CauseCounts : Cause → ℕ → ℕ → Type 0
@@ -44,35 +47,34 @@ abbrev pub Counts : {X : Type 0} → Result X Fault → ℕ → ℕ → Type 0
 Counts (Ok x) old new = new ≡ old
 Counts (Err fault) old new = CauseCounts (cause_of fault) old new
 
--- the status that an outcome ends with, if no write fails
-abbrev pub status_after : {X : Type 0} → Result X Fault → ℕ
-status_after (Ok x) = 0
-status_after (Err fault) = status_of fault
+module _ (meaning : Result Answer Fault) (old_faults new_faults : ℕ) (old new : Option (List ℕ)) where
+  -- no write failed and memory sufficed: the status is the one that is meant, and the whole text was written
+  pub record Ends (status : ℕ) : Type 0 where
+    pub text : List ℕ
+    pub means : MeansText meaning status text
+    pub quiet : new_faults ≡ old_faults
+    pub whole : Gains old new text
 
--- the text of an outcome
-abbrev pub text_after : {X : Type 0} → (X → List ℕ) → Result X Fault → List ℕ
-text_after text_of (Ok x) = text_of x
-text_after text_of (Err fault) = fault_line fault
+  -- memory ran out, which a fault says, and nothing was written
+  pub record RunsOut : Type 0 where
+    pub allowed : IfErr meaning (λ fault. status_of fault ≡ 4)
+    pub quiet : new_faults ≡ old_faults
+    pub same : new ≡ old
 
--- no write failed: the status is that of the outcome, and its whole text was written
-pub record Ends {X : Type 0} (text_of : X → List ℕ) (outcome : Result X Fault) (status old_faults new_faults : ℕ)
-    (old new : Option (List ℕ)) : Type 0 where
-  pub status_is : status ≡ status_after outcome
-  pub quiet : new_faults ≡ old_faults
-  pub whole : Gains old new (text_after text_of outcome)
+  -- a write failed: a front of the text was written
+  pub record Breaks : Type 0 where
+    pub meant_status : ℕ
+    pub text : List ℕ
+    pub means : MeansText meaning meant_status text
+    pub memory : meant_status ≢ 4
+    pub rose : Rose old_faults new_faults
+    pub prefix : GainsPrefix old new text
 
--- a write failed: a front of the outcome's text was written, which want of memory does not have
-pub record Breaks {X : Type 0} (text_of : X → List ℕ) (outcome : Result X Fault) (old_faults new_faults : ℕ)
-    (old new : Option (List ℕ)) : Type 0 where
-  pub memory : status_after outcome ≢ 4
-  pub rose : Rose old_faults new_faults
-  pub prefix : GainsPrefix old new (text_after text_of outcome)
-
--- what the writing of an outcome promises
-pub record Written {X : Type 0} (text_of : X → List ℕ) (outcome : Result X Fault) (status old_faults new_faults : ℕ)
-    (old new : Option (List ℕ)) : Type 0 where
-  pub ends : status ≢ 6 → Ends text_of outcome status old_faults new_faults old new
-  pub breaks : status ≡ 6 → Breaks text_of outcome old_faults new_faults old new
+  -- what the writing of what is meant promises
+  pub record Writes (status : ℕ) : Type 0 where
+    pub ends : status ≢ 4 → status ≢ 6 → Ends status
+    pub memory : status ≡ 4 → RunsOut
+    pub breaks : status ≡ 6 → Breaks
 
 -- the text that words and bytes mean was written, and this is the status that they mean
 abbrev pub WritesMeaning : List (List ℕ) → List ℕ → ℕ → Option (List ℕ) → Option (List ℕ) → Type 0
@@ -85,6 +87,16 @@ HasInputFault meaning = IsErrAnd meaning (λ fault. status_of fault ≡ 3)
 -- the words are refused, or memory ran out
 abbrev pub WordsRefused : {X : Type 0} → Result X Fault → Type 0
 WordsRefused outcome = (outcome ≡ Err Words) ⊎ (outcome ≡ Err Memory)
+
+-- a run is meant whose budget does not suffice: all numbers of rounds that walks take are above it
+abbrev pub GoesOn : Answer → Type 0
+GoesOn (ran program run graph after) = (rounds : ℕ) → TakesRounds program run graph rounds → budget_in program run graph < rounds
+GoesOn (generated graph) = ⊥
+GoesOn (owned rules hosts graph after) = ⊥
+GoesOn (divided way shares after) = ⊥
+
+abbrev pub SpendsBudget : Result Answer Fault → Type 0
+SpendsBudget meaning = IsOkAnd meaning GoesOn
 
 -- refused words have their line and status, unless a write fails or memory runs out
 abbrev pub RefusesWords : ℕ → Option (List ℕ) → Option (List ℕ) → Type 0
@@ -121,10 +133,10 @@ pub record WritesFront (words : List (List ℕ)) (left : Option (List ℕ)) (old
   pub is_text : IsToWrite words left old_faults new_faults text
   pub front : GainsPrefix old new text
 
--- The task is done, its text is written, and what its file does not use is left; or memory ran out, and
+-- The task is done as it is meant, its text is written, and what its file does not use is left; or memory ran out, and
 -- nothing is written.
 abbrev pub Completes : Result Answer Fault → ℕ → Option (List ℕ) → Option (List ℕ) → Option (List ℕ) → Type 0
 Completes (Ok answer) status left old new =
-    ((status ≡ 0) × Leaves answer left × ((text : List ℕ) × IsText answer text × Gains old new text))
+    ((text : List ℕ) × MeansAnswer answer status text × Gains old new text × Leaves answer left)
     ⊎ ((status ≡ 4) × (new ≡ old))
 Completes (Err fault) status left old new = Unit {0}

@@ -1,48 +1,21 @@
 -- What of the jobs that words may ask for runs today: this page shrinks the refusals as jobs are built.
-use Rattle.std.specs.Prelude.{ℕ, ◌&&◌, Bool, true, false, nat_eq, not, is_none, List, Option, Some, None, option_and_then, if◌then◌else◌}
-use Rattle.graph_model.specs.declared.edge.Way.{Way}
-use Rattle.graph_model.specs.declared.edge.Way.TheVariants.{Outward, Inward, Both}
-use Rattle.cusp_rules.specs.declared.master_rule.MasterRule.{MasterRule}
-use Rattle.cusp_rules.specs.declared.master_rule.MasterRule.TheVariants.{Edges, Nodes}
-use Rattle.edge_owner.specs.declared.owner_rule.OwnerRule.{OwnerRule}
-use Rattle.edge_owner.specs.declared.owner_rule.OwnerRule.TheVariants.{Source, Dest, Hybrid, Cartesian}
-use Rattle.command_words.specs.declared.job.RunWords.{RunWords}
+use Rattle.std.specs.Prelude.{◌≡◌, ℕ, Bool, true, false, List, Option, Some, None, option_map, option_and_then}
 use Rattle.command_words.specs.declared.job.Job.{Job}
 use Rattle.command_words.specs.declared.job.Job.TheVariants.{Bfs, Sssp, Cc, Kcore, Owners, Proxies, Make, Selfrun}
 use Rattle.command_words.specs.Jobs.{job_of}
+use Rattle.program_runs.specs.declared.program.Program.TheVariants as program
 use Rattle.gluon_top.specs.declared.task.Task.{Task}
 use Rattle.gluon_top.specs.declared.task.Task.TheVariants as task
 
-abbrev pub is_outward : Way → Bool
-is_outward Outward = true
-is_outward Inward = false
-is_outward Both = false
-
-abbrev pub is_by_edges : MasterRule → Bool
-is_by_edges Edges = true
-is_by_edges Nodes = false
-
-abbrev pub is_by_source : OwnerRule → Bool
-is_by_source Source = true
-is_by_source Dest = false
-is_by_source (Hybrid threshold) = false
-is_by_source Cartesian = false
-
--- a run that asks for no more than the defaults
-abbrev pub is_default : RunWords → Bool
-is_default run =
-    nat_eq run.hosts 4 && is_by_edges run.rules.masters && is_by_source run.rules.owner && is_outward run.way
-    && is_none run.rounds && nat_eq run.order 0 && not run.report && not run.trace
-
 -- the task of a job, where it runs today
 abbrev pub task_of_job : Job → Option Task
-task_of_job (Bfs root run) = if is_default run then Some (task.Search root) else None
-task_of_job (Make size number) = Some (task.Make size number)
-task_of_job (Sssp root run) = None
-task_of_job (Cc run) = None
+task_of_job (Bfs root run) = Some (task.Run (program.Bfs root) run)
+task_of_job (Sssp root run) = Some (task.Run (program.Sssp root) run)
+task_of_job (Cc run) = Some (task.Run program.Cc run)
 task_of_job (Kcore k run) = None
 task_of_job (Owners hosts rules) = Some (task.Owners hosts rules)
 task_of_job (Proxies hosts rules way) = Some (task.Proxies hosts rules way)
+task_of_job (Make size number) = Some (task.Make size number)
 task_of_job (Selfrun size number hosts rules order) = None
 
 -- the task of words; where there is none, the words are refused
@@ -51,8 +24,32 @@ task_of words = option_and_then task_of_job (job_of words)
 
 -- whether a task reads the input
 abbrev pub reads_input : Option Task → Bool
-reads_input (Some (task.Search root)) = true
+reads_input (Some (task.Run program run)) = true
 reads_input (Some (task.Make size number)) = false
 reads_input (Some (task.Owners hosts rules)) = true
 reads_input (Some (task.Proxies hosts rules way)) = true
 reads_input None = false
+
+-- whether a task runs a program over hosts
+abbrev pub runs_program : Option Task → Bool
+runs_program (Some (task.Run program run)) = true
+runs_program (Some (task.Make size number)) = false
+runs_program (Some (task.Owners hosts rules)) = false
+runs_program (Some (task.Proxies hosts rules way)) = false
+runs_program None = false
+
+-- a task that is no run, or a run that is given no number of rounds
+abbrev pub HasNoBudget : Option Task → Type 0
+HasNoBudget (Some (task.Run program run)) = run.rounds ≡ None
+HasNoBudget (Some (task.Make size number)) = Unit {0}
+HasNoBudget (Some (task.Owners hosts rules)) = Unit {0}
+HasNoBudget (Some (task.Proxies hosts rules way)) = Unit {0}
+HasNoBudget None = Unit {0}
+
+-- The number from which a picker last began: the order that a run asks for, where the task is a run.
+abbrev pub BeginsAs : Option Task → (old new : Option (Option ℕ)) → Type 0
+BeginsAs (Some (task.Run program run)) old new = new ≡ option_map (λ _. Some run.order) old
+BeginsAs (Some (task.Make size number)) old new = new ≡ old
+BeginsAs (Some (task.Owners hosts rules)) old new = new ≡ old
+BeginsAs (Some (task.Proxies hosts rules way)) old new = new ≡ old
+BeginsAs None old new = new ≡ old

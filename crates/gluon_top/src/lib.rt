@@ -1,27 +1,28 @@
 //! The top call: words and bytes in, a status and text out.
 //!
-//! For now a breadth-first search runs, on one host, and the making of a graph, and the telling of
-//! masters and owners and of proxies and lists. The words name the job; the bytes are a graph as a .gr
-//! file; the text has the distance of each node, or is the made graph's file, or has the master of each
-//! node and the owner of each edge, or has the proxies of each host and the lists that hosts agree on.
-//! Whatever is wrong with the words or the bytes, the first such thing has one line and a status of its
-//! own.
+//! The words name the job. A breadth-first search, shortest paths and components run over hosts; a graph is
+//! made; masters and owners, or proxies and lists, are told. The bytes are a graph as a .gr file. Whatever is
+//! wrong with the words or the bytes, the first such thing has one line and a status of its own.
 //!
-//! What words and bytes mean is said in specs/Meaning.antt without the code: by the definition of a file and
-//! by walks. The contract of [`gluon_main`] ties what is written to that meaning.
+//! What words and bytes mean is said in specs/Meaning.antt without the code: by the definition of a file, by
+//! walks, and by the packets that walks call for. The contract of [`gluon_main`] ties what is written to that
+//! meaning, and hands back the cluster that was run.
 #![tactic(auto)]
 
 mod answers;
 mod fault;
-mod levels;
 mod line;
 mod lines;
 mod owner_lines;
 mod owners;
+mod prepared;
 mod proxies;
 #[cfg(test)]
 mod proxy_tests;
-mod search;
+#[cfg(test)]
+mod run_tests;
+mod runs;
+mod shares;
 mod status;
 mod task;
 #[cfg(test)]
@@ -29,6 +30,9 @@ mod tests;
 mod top;
 
 pub use fault::Fault;
-pub use status::{DONE, INPUT_REFUSED, NO_MEMORY, READ_FAILED, WORDS_REFUSED, WRITE_FAILED};
+pub use program_runs::{LastRun, Program};
+pub use status::{
+    DONE, INPUT_REFUSED, NO_MEMORY, READ_FAILED, ROUNDS_SPENT, WORDS_REFUSED, WRITE_FAILED,
+};
 pub use task::Task;
 pub use top::{Outcome, gluon_main};

@@ -1,20 +1,17 @@
-//! The text of each outcome: a line for each node, masters and owners, proxies and lists, or one line for a
-//! fault.
-ghost use Rattle.std.specs.Prelude.{◌≡◌, ◌≤◌, ◌++◌, length, decimal, OnOk, OnErr};
+//! The text of what is no run: masters and owners, proxies and lists, or one line for a fault.
+ghost use Rattle.std.specs.Prelude.{◌≡◌, ◌++◌, decimal, OnOk, OnErr};
 ghost use Rattle.io_edge.specs.Faults.{Rose};
 ghost use Rattle.io_edge.specs.Bytes.{Gains, GainsPrefix};
 ghost use Rattle.io_edge.specs.Writing.{Wrote};
 ghost use Rattle.answer_writer.specs.Lines.{words_line};
-ghost use Rattle.graph_model.specs.Graph.{most_nodes};
 ghost use Rattle.gluon_top.specs.Fault.{fault_line, line_text};
-ghost use Rattle.gluon_top.specs.Meaning.{answer_lines};
 ghost use Rattle.gluon_top.specs.Lines.{lines_text, AreFewLines};
 
 use crate::fault::Fault;
 use crate::line::Line;
 use crate::owner_lines::write_owners;
 use crate::proxies::Divided;
-use answer_writer::{write_answer, write_number, write_words};
+use answer_writer::{write_number, write_words};
 use graph_model::EdgeList;
 use io_edge::{PagedSink, Sink, SinkFault, write_whole};
 use partition_text::write_partition;
@@ -23,8 +20,6 @@ use share_plan::SharePlan;
 /// Lines that are written.
 #[derive(Clone, Copy)]
 pub(crate) enum Lines<'a> {
-    /// A line for each node, from 0 on: its distance, or `-` for none.
-    Answers(&'a [Option<u32>]),
     /// A line for each vertex with its master, and then one for each edge with its owner.
     Owners(&'a EdgeList, &'a SharePlan),
     /// The text of a graph that is divided among hosts.
@@ -52,33 +47,11 @@ fn write_each_line<K: Sink>(sink: &mut K, lines: Lines<'_>) -> Result<(), SinkFa
     ensures written { Wrote K.Sink result sink.old sink.new (lines_text lines.entry) }
 {
     match lines {
-        Lines::Answers(distances) => write_answers(sink, distances),
         Lines::Owners(list, plan) => write_owners(sink, list, plan),
         Lines::Divided(divided) => {
             write_partition(sink, &divided.graphs, &divided.memos, divided.way)
         }
         Lines::Fault(fault) => write_fault(sink, fault),
-    }
-}
-
-/// Writes a line for each node, from 0 on: its distance, or `-` for none.
-fn write_answers<K: Sink>(sink: &mut K, distances: &[Option<u32>]) -> Result<(), SinkFault>
-    requires { length distances.now ≤ most_nodes }
-    ensures written { Wrote K.Sink result sink.old sink.new (answer_lines 0 distances.now) }
-{
-    for (v, distance) in distances.iter().enumerate() {
-        write_answer(sink, v as u32, as_value(*distance))?;
-    }
-    Ok(())
-}
-
-/// A distance as the value of an answer.
-fn as_value(distance: Option<u32>) -> Option<u64>
-    ensures { result ≡ distance }
-{
-    match distance {
-        Some(arcs) => Some(u64::from(arcs)),
-        None => None,
     }
 }
 
@@ -93,7 +66,7 @@ fn write_fault<K: Sink>(sink: &mut K, fault: Fault) -> Result<(), SinkFault>
 }
 
 /// Writes a line.
-fn write_line<K: Sink>(sink: &mut K, line: Line) -> Result<(), SinkFault>
+pub(crate) fn write_line<K: Sink>(sink: &mut K, line: Line) -> Result<(), SinkFault>
     ensures written { Wrote K.Sink result sink.old sink.new (line_text line) }
 {
     match line {

@@ -6,7 +6,7 @@ ghost use Rattle.gluon_top.specs.Fault.{cause_of};
 ghost use Rattle.gluon_top.specs.Meaning.{of_input};
 ghost use Rattle.gluon_top.specs.Outcome.{Counts, IfMeant, LeftAfter};
 ghost use Rattle.gluon_top.specs.Owners.{owners_text, plan_text};
-ghost use Rattle.gluon_top.specs.Search.{LoadsWith};
+ghost use Rattle.gluon_top.specs.Loaded.{LoadsWith};
 
 use crate::fault::Fault;
 use edge_owner::Rules;

@@ -12,6 +12,9 @@ pub const INPUT_REFUSED: u8 = 3;
 /// Memory ran out, and nothing was written.
 pub const NO_MEMORY: u8 = 4;
 
+/// A run was not at its end after all rounds that it might have.
+pub const ROUNDS_SPENT: u8 = 5;
+
 /// A write failed.
 pub const WRITE_FAILED: u8 = 6;
 

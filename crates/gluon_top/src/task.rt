@@ -1,22 +1,24 @@
 //! What is to be done.
 ghost use Rattle.std.specs.Prelude.{◌≡◌, ◌⊎◌, None, Some, Err, IfOk, IfErr};
 ghost use Rattle.command_words.specs.Items.{texts_of};
-ghost use Rattle.gluon_top.specs.Tasks.{is_default, task_of_job, task_of};
+ghost use Rattle.gluon_top.specs.Tasks.{task_of_job, task_of};
 
 use crate::fault::Fault;
 use command_words::{Job, RunWords, WordsFault, read_words};
-use cusp_rules::MasterRule;
-use edge_owner::{OwnerRule, Rules};
+use edge_owner::Rules;
 use graph_model::Way;
+use program_runs::Program;
 use std::alloc::Global;
 
 /// A job that runs today.
 #[derive(Clone, Copy, Debug, PartialEq, Eq)]
 pub enum Task {
-    /// Find the least number of arcs from this node to each.
-    Search {
-        /// The node where the search starts.
-        root: u32,
+    /// Run a program over hosts.
+    Run {
+        /// The program.
+        program: Program,
+        /// How it is to be run.
+        run: RunWords,
     },
     /// Write the file of the graph that is made of a size and a number.
     Make {
@@ -64,24 +66,21 @@ fn task_now(job: Job) -> Option<Task>
     ensures { result ≡ task_of_job job }
 {
     match job {
-        Job::Bfs { root, run } if is_default(&run) => Some(Task::Search { root }),
+        Job::Bfs { root, run } => Some(Task::Run {
+            program: Program::Bfs { root },
+            run,
+        }),
+        Job::Sssp { root, run } => Some(Task::Run {
+            program: Program::Sssp { root },
+            run,
+        }),
+        Job::Cc { run } => Some(Task::Run {
+            program: Program::Cc,
+            run,
+        }),
         Job::Make { size, number } => Some(Task::Make { size, number }),
         Job::Owners { hosts, rules } => Some(Task::Owners { hosts, rules }),
         Job::Proxies { hosts, rules, way } => Some(Task::Proxies { hosts, rules, way }),
         _ => None,
     }
-}
-
-/// Whether a run asks for no more than the defaults.
-fn is_default(run: &RunWords) -> bool
-    ensures { result ≡ is_default run.now }
-{
-    run.hosts == 4
-        && matches!(run.rules.masters, MasterRule::Edges)
-        && matches!(run.rules.owner, OwnerRule::Source)
-        && matches!(run.way, Way::Outward)
-        && run.rounds.is_none()
-        && run.order == 0
-        && !run.report
-        && !run.trace
 }

@@ -1,5 +1,5 @@
 use crate::gluon_main;
-use io_edge::{FirstPicks, MemorySink, MemorySource, PlainSource};
+use io_edge::{FirstPicks, MemorySink, MemorySource, Picker, PlainSource, Sink, Source};
 use std::alloc::{AllocError, Global};
 use std::process::Abort;
 use std::test::Fail;
@@ -27,12 +27,24 @@ pub(crate) fn file(
     Ok(bytes)
 }
 
-fn owned(alloc: Global, words: &[&str]) -> Result<Vec<String>, AllocError> {
+/// These words as strings.
+pub(crate) fn owned(alloc: Global, words: &[&str]) -> Result<Vec<String>, AllocError> {
     let mut all = Vec::new(alloc);
     for word in words {
         all.push(String::from_str(alloc, word)?)?;
     }
     Ok(all)
+}
+
+/// The status of the call, whose cluster, if it hands one back, is dropped.
+pub(crate) fn status_of_call<S: Source, K: Sink, P: Picker>(
+    alloc: Global,
+    words: &[String],
+    source: &mut S,
+    sink: &mut K,
+    picker: &mut P,
+) -> u8 {
+    gluon_main(alloc, words, source, sink, picker).status
 }
 
 /// The call on these words and bytes ends with this status and has written this text.
@@ -47,9 +59,9 @@ pub(crate) fn expect_run(
     let words = owned(alloc, words)?;
     let mut source = PlainSource::new(bytes);
     let mut sink = MemorySink::new(alloc, 1024, 1024, Vec::new(alloc))?;
-    let outcome = gluon_main(alloc, &words, &mut source, &mut sink, &mut FirstPicks);
+    let ended = status_of_call(alloc, &words, &mut source, &mut sink, &mut FirstPicks);
     assert_eq!(rt; sink.held(), text.as_bytes());
-    assert_eq!(rt; outcome.status, status, "where {text} is written");
+    assert_eq!(rt; ended, status, "where {text} is written");
     Ok(())
 }
 
@@ -219,7 +231,7 @@ fn words_come_in_any_order_and_defaults_may_be_said(rt: HostRuntime) -> Result<(
 #[test]
 fn words_that_name_no_job_that_runs_are_refused(rt: HostRuntime) -> Result<(), Fail> {
     let alloc = rt.alloc();
-    let all: [&[&str]; 18] = [
+    let all: [&[&str]; 20] = [
         &[],
         &["bfs"],
         &["bfs", "--root"],
@@ -234,9 +246,11 @@ fn words_that_name_no_job_that_runs_are_refused(rt: HostRuntime) -> Result<(), F
         &["make"],
         &["make", "--size", "1000001"],
         &["cc", "cc"],
-        &["sssp", "--root", "0"],
-        &["bfs", "--root", "0", "--hosts", "2"],
-        &["bfs", "--root", "0", "--trace"],
+        &["cc", "--hosts", "0"],
+        &["cc", "--hosts", "65"],
+        &["cc", "--trace=yes"],
+        &["kcore", "--k", "3", "--root", "0"],
+        &["kcore", "--k", "3"],
         &["selfrun", "--size", "1"],
     ];
     for words in all {
@@ -252,8 +266,8 @@ fn a_made_graph_is_a_file_that_is_read_again(rt: HostRuntime) -> Result<(), Fail
     let make = owned(alloc, &["make", "--size", "1", "--number=9"])?;
     let mut source = MemorySource::new(Vec::new(alloc), 1, vec![in alloc; 0]?);
     let mut sink = MemorySink::new(alloc, 1024, 1024, Vec::new(alloc))?;
-    let outcome = gluon_main(alloc, &make, &mut source, &mut sink, &mut FirstPicks);
-    assert_eq!(rt; (outcome.status, sink.held().len()), (0, 168));
+    let ended = status_of_call(alloc, &make, &mut source, &mut sink, &mut FirstPicks);
+    assert_eq!(rt; (ended, sink.held().len()), (0, 168));
     let mut front = file(alloc, &[1, 4, 1, 16, 16], &[0; 16], 104)?;
     front.extend_from_slice(&[1, 0, 0, 0])?;
     assert!(rt; sink.held().starts_with(&front));
@@ -269,26 +283,20 @@ fn a_failed_read_and_a_failed_write_have_their_status(rt: HostRuntime) -> Result
     let diamond = file(alloc, &DIAMOND_LONGS, &DIAMOND_WORDS, 80)?;
     let mut source = MemorySource::new(diamond, 7, vec![in alloc; 1]?);
     let mut sink = MemorySink::new(alloc, 100, 100, Vec::new(alloc))?;
-    let outcome = gluon_main(alloc, &search, &mut source, &mut sink, &mut FirstPicks);
-    assert_eq!(rt;
-        (outcome.status, sink.held()),
-        (7, b"fault: read\n".as_slice())
-    );
+    let ended = status_of_call(alloc, &search, &mut source, &mut sink, &mut FirstPicks);
+    assert_eq!(rt; (ended, sink.held()), (7, b"fault: read\n".as_slice()));
 
     let diamond = file(alloc, &DIAMOND_LONGS, &DIAMOND_WORDS, 80)?;
     let mut source = PlainSource::new(diamond);
     let mut sink = MemorySink::new(alloc, 100, 4, vec![in alloc; 2]?)?;
-    let outcome = gluon_main(alloc, &search, &mut source, &mut sink, &mut FirstPicks);
-    assert_eq!(rt;
-        (outcome.status, sink.held()),
-        (6, b"0 0\n1 1\n".as_slice())
-    );
+    let ended = status_of_call(alloc, &search, &mut source, &mut sink, &mut FirstPicks);
+    assert_eq!(rt; (ended, sink.held()), (6, b"0 0\n1 1\n".as_slice()));
 
     let mut source = PlainSource::new(Vec::new(alloc));
     let mut sink = MemorySink::new(alloc, 100, 100, vec![in alloc; 0]?)?;
     let refused = owned(alloc, &["bfs"])?;
-    let outcome = gluon_main(alloc, &refused, &mut source, &mut sink, &mut FirstPicks);
-    assert_eq!(rt; (outcome.status, sink.held()), (6, b"".as_slice()));
+    let ended = status_of_call(alloc, &refused, &mut source, &mut sink, &mut FirstPicks);
+    assert_eq!(rt; (ended, sink.held()), (6, b"".as_slice()));
     Ok(())
 }
 
@@ -300,8 +308,8 @@ fn a_file_cut_at_any_byte_has_one_line(rt: HostRuntime) -> Result<(), Fail> {
         let cut = file(alloc, &DIAMOND_LONGS, &DIAMOND_WORDS, length)?;
         let mut source = PlainSource::new(cut);
         let mut sink = MemorySink::new(alloc, 100, 100, Vec::new(alloc))?;
-        let outcome = gluon_main(alloc, &search, &mut source, &mut sink, &mut FirstPicks);
-        assert_eq!(rt; outcome.status, 3, "cut after {length} bytes");
+        let ended = status_of_call(alloc, &search, &mut source, &mut sink, &mut FirstPicks);
+        assert_eq!(rt; ended, 3, "cut after {length} bytes");
         let text = sink.held();
         assert!(rt;
             text.starts_with(b"fault: input ends in "),

@@ -1,8 +1,8 @@
-use Rattle.std.proofs.Common.{ℕ, List, Option, map, string_bytes, refl}
-use Rattle.gluon_top.specs.Tasks.{task_of, reads_input}
+use Rattle.std.proofs.Common.{ℕ, List, Option, map, string_bytes, ◌∙◌, sym, subst}
+use Rattle.gluon_top.specs.Tasks.{task_of, reads_input, runs_program, BeginsAs}
 use Rattle.gluon_top.specs.Meaning.{meaning_of}
-use Rattle.gluon_top.specs.Answers.{text_of}
-use Rattle.gluon_top.proofs.Outcomes.{OfBytes-map, headline, complete, known, words_only, words_refused, input_only, input_fault, taken_of_input, memory_held, front, read_only, read_quiet}
+use Rattle.gluon_top.specs.Prepared.{RunsAs}
+use Rattle.gluon_top.proofs.Outcomes.{OfBytes-map, Came, free_of, headline, complete, known, words_only, words_refused, input_only, input_fault, spent_only, spent, free, taken_of_input, memory_held, write_rose, write_quiet, front, read_only, read_quiet, runs_as, last_comes, no_run, not_memory}
 use Rattle.gluon_top.proofs.top.gluon_main.Goals as goal
 
 pub returns : goal.returns
@@ -10,36 +10,48 @@ returns g c =
     let words : List (List ℕ) = map string_bytes c.args.words.now in
     let needed = reads_input (task_of words) in
     let left : Option (List ℕ) = g.S.Source.left c.args.source.now in
-    let left' : Option (List ℕ) = g.S.Source.left c.answer-outcome.new.source in
+    let left' : Option (List ℕ) = g.S.Source.left c.prepare-prepared.new.source in
     let fs : ℕ = g.S.Source.faults c.args.source.now in
-    let fs' : ℕ = g.S.Source.faults c.answer-outcome.new.source in
+    let fs' : ℕ = g.S.Source.faults c.prepare-prepared.new.source in
     let held : Option (List ℕ) = g.K.Sink.held c.args.sink.now in
     let held' : Option (List ℕ) = g.K.Sink.held c.finish.new.sink in
     let fk : ℕ = g.K.Sink.faults c.args.sink.now in
     let fk' : ℕ = g.K.Sink.faults c.finish.new.sink in
-    let outcome = c.answer-outcome.result in
-    let came = c.answer-outcome.ensures in
-    let written = c.finish.ensures in
+    let status = c.finish.result.status in
+    let prepared = c.prepare-prepared.result in
+    let was = c.prepare-prepared.ensures in
+    let came : Came prepared held held' fs fs' fk fk' status = record { answered = was.answered; counts = was.counts; written = c.finish.ensures.written } in
     record {
-      headline = λ memory source sink. OfBytes-map needed left _ _ came.means (λ bytes finds.
-          headline text_of (meaning_of words bytes) left' held held' fs fs' fk fk' c.finish.result outcome finds came.counts written memory source sink);
-      complete = OfBytes-map needed left _ _ came.means (λ bytes finds ok source sink.
-          complete text_of (meaning_of words bytes) left' held held' fs fs' fk fk' c.finish.result outcome finds came.counts written ok source sink);
-      unread = came.unread;
-      known = known text_of held held' fk fk' c.finish.result outcome written;
-      words_only = words_only text_of (task_of words) held held' fk fk' c.finish.result outcome came.words written;
-      words = λ none. words_refused text_of held held' fk fk' c.finish.result outcome (came.refused none) written;
-      input_only = λ three. OfBytes-map needed left _ _ came.means (λ bytes finds.
-          input_only text_of (meaning_of words bytes) left' held held' fs fs' fk fk' c.finish.result outcome finds came.counts written three);
-      input = OfBytes-map needed left _ _ came.means (λ bytes finds faulty not4 not6 not7.
-          input_fault text_of (meaning_of words bytes) left' held held' fs fs' fk fk' c.finish.result outcome finds came.counts written faulty not4 not6 not7);
-      taken = taken_of_input text_of words left left' held held' fs fs' fk fk' c.finish.result outcome came.means came.counts written came.taken;
-      memory = memory_held text_of held held' fs fs' fk fk' c.finish.result outcome came.counts written;
-      write_only = λ six. (written.breaks six).rose;
-      write = λ not6. (written.ends not6).quiet;
-      front = front text_of words left left' held held' fs fs' fk fk' c.finish.result outcome came.means came.counts written;
-      read_only = read_only text_of held held' fs fs' fk fk' c.finish.result outcome came.counts written;
-      read = read_quiet text_of held held' fs fs' fk fk' c.finish.result outcome came.counts written;
-      begun = refl;
-      asked = refl;
+      headline = λ memory source sink. OfBytes-map needed left _ _ was.means (λ bytes finds.
+          headline (meaning_of words bytes) left' held held' fs fs' fk fk' status prepared finds came memory source sink);
+      complete = OfBytes-map needed left _ _ was.means (λ bytes finds ok source sink.
+          complete (meaning_of words bytes) left' held held' fs fs' fk fk' status prepared finds came ok source sink);
+      free = λ none. free held held' fs fs' fk fk' status prepared (free_of prepared was.free none) came;
+      hosts = OfBytes-map needed left _ _ was.means (λ bytes finds.
+          subst (λ (asked : Option ℕ). RunsAs (meaning_of words bytes) status c.finish.result.last asked (g.P.Picker.asked c.finish.new.picker)) was.asked
+          (runs_as (meaning_of words bytes) left' held held' fs fs' fk fk' status prepared c.finish.result.last (g.P.Picker.asked c.prepare-prepared.new.picker) (g.P.Picker.asked c.finish.new.picker) finds came c.finish.ensures.hosts));
+      unread = was.unread;
+      known = known held held' fs fs' fk fk' status prepared came;
+      words_only = words_only (task_of words) held held' fs fs' fk fk' status prepared was.words came;
+      words = λ none. words_refused held held' fs fs' fk fk' status prepared (was.refused none) came;
+      input_only = λ three. OfBytes-map needed left _ _ was.means (λ bytes finds.
+          input_only (meaning_of words bytes) left' held held' fs fs' fk fk' status prepared finds came three);
+      input = OfBytes-map needed left _ _ was.means (λ bytes finds faulty not4 not6 not7.
+          input_fault (meaning_of words bytes) left' held held' fs fs' fk fk' status prepared finds came faulty not4 not6 not7);
+      taken = taken_of_input words left left' held held' fs fs' fk fk' status prepared was.means came was.taken;
+      spent_only = λ five. OfBytes-map needed left _ _ was.means (λ bytes finds.
+          spent_only (meaning_of words bytes) left' held held' fs fs' fk fk' status prepared finds came five);
+      spent = OfBytes-map needed left _ _ was.means (λ bytes finds spends not4 not6 not7.
+          spent (meaning_of words bytes) left' held held' fs fs' fk fk' status prepared finds came spends not4 not6 not7);
+      memory = memory_held held held' fs fs' fk fk' status prepared came;
+      write_only = write_rose held held' fs fs' fk fk' status prepared came;
+      write = write_quiet held held' fs fs' fk fk' status prepared came;
+      front = front words left left' held held' fs fs' fk fk' status prepared was.means came;
+      read_only = read_only held held' fs fs' fk fk' status prepared came;
+      read = read_quiet held held' fs fs' fk fk' status prepared came;
+      last = last_comes held held' fs fs' fk fk' status prepared c.finish.result.last (runs_program (task_of words)) was.kind came c.finish.ensures.last;
+      begun = λ not4. subst (λ (begun : Option (Option ℕ)). BeginsAs (task_of words) (g.P.Picker.begun c.args.picker.now) begun) (sym c.finish.ensures.begun)
+          (was.begun (not_memory held held' fs fs' fk fk' status prepared came not4));
+      unbegun = λ no. c.finish.ensures.begun ∙ was.unbegun no;
+      unasked = λ no. c.finish.ensures.unasked (no_run prepared (runs_program (task_of words)) was.kind no) ∙ was.asked;
     }
