@@ -1,3 +1,2 @@
 pub mod RoomsLaws
 pub mod SharesMade
-pub mod BuildLaws

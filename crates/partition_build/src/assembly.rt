@@ -1,9 +1,10 @@
 //! Local graphs are made of the edges of each host.
 ghost use Rattle.std.specs.Prelude.{◌≡◌, ◌≤◌, length, All, IfOk, vec_len};
 ghost use Rattle.graph_model.specs.Graph.{most_nodes};
-ghost use Rattle.partition_build.specs.Rooms.{IsRoom, shares_from};
+ghost use Rattle.share_plan.specs.Starts.{starts_of};
+ghost use Rattle.partition_build.specs.Rooms.{IsRoom, shares_from, shares_by_source};
 
-use graph_model::Edge;
+use graph_model::{Edge, EdgeList};
 use proxy_graph::LocalGraph;
 use share_plan::SharePlan;
 use std::alloc::{AllocError, Global};
@@ -26,6 +27,27 @@ pub(crate) fn assemble_each(
     for edges in rooms {
         let host = graphs.len() as u16;
         graphs.push(LocalGraph::assemble(alloc, host, plan.masters(), nodes, &edges)?)?;
+    }
+    Ok(graphs)
+}
+
+/// The local graph of each host, where the masters of sources own the edges: those of a host lie side by
+/// side in the list, and are not copied.
+pub(crate) fn assemble_by_source(
+    alloc: Global,
+    list: &EdgeList,
+    plan: &SharePlan,
+) -> Result<Vec<LocalGraph>, AllocError>
+    requires nodes { list.now.nodes ≡ length plan.now.masters }
+    requires starts { plan.now.starts ≡ starts_of list.now }
+    ensures { IfOk result (λ graphs. graphs.items ≡ shares_by_source plan.now list.now plan.now.hosts) }
+{
+    let masters = plan.masters();
+    let nodes = list.nodes();
+    let mut graphs = Vec::with_capacity(alloc, usize::from(masters.hosts()))?;
+    for host in 0..masters.hosts() {
+        let edges = plan.edges_from(list, host);
+        graphs.push(LocalGraph::assemble(alloc, host, masters, nodes, edges)?)?;
     }
     Ok(graphs)
 }

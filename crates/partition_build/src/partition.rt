@@ -1,5 +1,5 @@
 //! The local graphs of a graph in memory, and of a file.
-ghost use Rattle.std.specs.Prelude.{◌≡◌, ◌⊎◌, IfOk, IfSome, IfErr, OnOk};
+ghost use Rattle.std.specs.Prelude.{◌≡◌, ◌⊎◌, length, IfOk, IfSome, IfErr, OnOk};
 ghost use Rattle.cusp_rules.specs.Hosts.{IsHostCount};
 ghost use Rattle.gr_reader.specs.declared.stage.Stage.TheVariants as stages;
 ghost use Rattle.gr_reader.specs.Cause.{IsOfRest};
@@ -8,13 +8,14 @@ ghost use Rattle.gr_reader.specs.Reading.{Means, Counts};
 ghost use Rattle.gr_reader.specs.Reach.{TakesAtMost, reach};
 ghost use Rattle.graph_division.specs.Partition.{IsPartition};
 ghost use Rattle.share_plan.specs.Owners.{shares_of};
-ghost use Rattle.partition_build.specs.Meant.{shared};
+ghost use Rattle.partition_build.specs.Meant.{shared, AreShared, FindsShares};
+ghost use Rattle.partition_build.specs.Rooms.{AreRooms};
 
-use crate::assembly::assemble_each;
-use crate::handing::{counts, hand_out, rooms};
+use crate::assembly::{assemble_by_source, assemble_each};
+use crate::handing::filled_rooms;
 use edge_owner::Rules;
 use gr_reader::{GrFault, GrReader, read_rest};
-use graph_model::EdgeList;
+use graph_model::{Edge, EdgeList};
 use io_edge::Source;
 use proxy_graph::LocalGraph;
 use share_plan::SharePlan;
@@ -32,14 +33,47 @@ pub fn build_list(
     ensures shares { IfOk result (λ graphs. graphs.items ≡ shares_of rules hosts list.now) }
     ensures partition { IfOk result (λ graphs. IsPartition graphs.items) }
 {
+    let nodes = list.nodes();
     let plan = SharePlan::new(alloc, rules, hosts, list)?;
-    let edges = list.edges();
-    let mut rooms = {
-        let counts = counts(alloc, edges, &plan)?;
-        rooms(alloc, &counts)?
-    };
-    hand_out(edges, &plan, &mut rooms)?;
-    assemble_each(alloc, list.nodes(), &plan, rooms)
+    if plan.sources_own() {
+        assemble_by_source(alloc, list, &plan)
+    } else {
+        let rooms = filled_rooms(alloc, list.edges(), &plan)?;
+        assemble_each(alloc, nodes, &plan, rooms)
+    }
+}
+
+/// The same of a list that is given up as soon as its edges are in rooms.
+fn build_whole(
+    alloc: Global,
+    list: EdgeList,
+    rules: Rules,
+    hosts: u16,
+) -> Result<Vec<LocalGraph>, AllocError>
+    requires { IsHostCount hosts }
+    ensures shares { IfOk result (λ graphs. graphs.items ≡ shares_of rules hosts list) }
+    ensures partition { IfOk result (λ graphs. IsPartition graphs.items) }
+{
+    let nodes = list.nodes();
+    let plan = SharePlan::new(alloc, rules, hosts, &list)?;
+    if plan.sources_own() {
+        assemble_by_source(alloc, &list, &plan)
+    } else {
+        let rooms = emptied_into_rooms(alloc, list, &plan)?;
+        assemble_each(alloc, nodes, &plan, rooms)
+    }
+}
+
+/// A room a host, with the edges of a list that it owns. The list is given up.
+fn emptied_into_rooms(
+    alloc: Global,
+    list: EdgeList,
+    plan: &SharePlan,
+) -> Result<Vec<Vec<Edge>>, AllocError>
+    requires { list.nodes ≡ length plan.now.masters }
+    ensures { IfOk result (λ rooms. AreRooms plan.now list.edges rooms.items) }
+{
+    filled_rooms(alloc, list.edges(), plan)
 }
 
 /// Reads all that follows the head, and makes the local graph of each host, by rising number, for 1 to 64
@@ -58,6 +92,13 @@ pub fn build<S: Source>(
     ensures means { IfSome (S.left source.old) (λ bytes.
         Means (λ graphs. graphs.items) result (S.left source.new)
         (shared rules hosts (rest_at reader.old.head bytes))) }
+    // The same, told by that graph.
+    ensures finds { IfSome (S.left source.old) (λ bytes.
+        FindsShares rules hosts (λ graphs. graphs.items) result (S.left source.new)
+        (rest_at reader.old.head bytes)) }
+    // Also where the source does not tell its bytes the graphs are those of one graph, of as many nodes as
+    // the head says.
+    ensures shared { IfOk result (λ graphs. AreShared rules hosts reader.old.head.nodes graphs.items) }
     ensures partition { IfOk result (λ graphs. IsPartition graphs.items) }
     ensures faults { IfErr result IsOfRest }
     ensures head { reader.new.head ≡ reader.old.head }
@@ -70,5 +111,6 @@ pub fn build<S: Source>(
     ensures counts { Counts result (S.faults source.old) (S.faults source.new) }
 {
     let list = read_rest(alloc, reader, source)?;
-    Ok(build_list(alloc, &list, rules, hosts)?)
+    let _facts = list.nodes();
+    Ok(build_whole(alloc, list, rules, hosts)?)
 }

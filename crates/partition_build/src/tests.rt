@@ -94,17 +94,48 @@ fn each_owner_rule_hands_out_loops_and_repeated_edges(rt: HostRuntime) -> Result
 }
 
 #[test]
+fn one_host_has_all_edges_by_each_rule(rt: HostRuntime) -> Result<(), Fail> {
+    let alloc = rt.alloc();
+    let list = read(alloc, &LOOP_LONGS, &LOOP_WORDS)?;
+    for owner in [
+        OwnerRule::Source,
+        OwnerRule::Dest,
+        OwnerRule::Hybrid(2),
+        OwnerRule::Cartesian,
+    ] {
+        let rules = Rules {
+            masters: MasterRule::Edges,
+            owner,
+        };
+        let graphs = build_list(alloc, &list, rules, 1)?;
+        expect_hosts(&rt, alloc, &graphs, &[(5, &[])])?;
+    }
+    Ok(())
+}
+
+#[test]
 fn a_file_is_divided_and_one_without_nodes_too(rt: HostRuntime) -> Result<(), Fail> {
     let alloc = rt.alloc();
-    let rules = Rules {
-        masters: MasterRule::Edges,
-        owner: OwnerRule::Source,
-    };
-    let all: [(&[u64], &[u32], [(u32, &[u32]); 2]); 2] = [
-        (&LOOP_LONGS, &LOOP_WORDS, [(3, &[1]), (2, &[])]),
-        (&[1, 0, 0, 0], &[], [(0, &[]), (0, &[])]),
+    let all: [(OwnerRule, &[u64], &[u32], [(u32, &[u32]); 2]); 3] = [
+        (
+            OwnerRule::Source,
+            &LOOP_LONGS,
+            &LOOP_WORDS,
+            [(3, &[1]), (2, &[])],
+        ),
+        (
+            OwnerRule::Dest,
+            &LOOP_LONGS,
+            &LOOP_WORDS,
+            [(1, &[]), (4, &[0])],
+        ),
+        (OwnerRule::Source, &[1, 0, 0, 0], &[], [(0, &[]), (0, &[])]),
     ];
-    for (longs, words, hosts) in all {
+    for (owner, longs, words, hosts) in all {
+        let rules = Rules {
+            masters: MasterRule::Edges,
+            owner,
+        };
         let mut source = file(alloc, longs, words)?;
         let mut reader = GrReader::new(alloc)?;
         match reader.read_head(&mut source) {

@@ -1,33 +1,32 @@
 -- What assembling gives: the fields are those of the local graph of the share.
-use Rattle.std.proofs.Common.{◌≡◌, ◌≢◌, ◌↔◌, ℕ, zero, suc, ◌+◌, ◌-◌, ◌<◌, ◌≤◌, true, false, Bool, cond, not, ◌&&◌, ◌||◌, ◌==◌, List, [], ◌∷◌, ◌++◌, length, map, take, drop, slice_index, slice_index_or, refl, sym, ◌∙◌, ap, arith, inl, inr, subst, length-append, append-nil}
-use Rattle.std.specs.List.{All, filter, flat_map, list_any, range_with_len, zip}
+use Rattle.std.proofs.Common.{◌≡◌, ◌↔◌, ℕ, zero, suc, ◌+◌, ◌-◌, ◌<◌, ◌≤◌, true, false, Bool, cond, not, ◌&&◌, ◌||◌, ◌==◌, List, [], ◌∷◌, ◌++◌, length, map, take, drop, slice_index, slice_index_or, refl, sym, ◌∙◌, ap, arith, inl, inr, subst, length-append, append-nil}
+use Rattle.std.specs.List.{All, filter, list_any, range_with_len}
 use Rattle.std.specs.List.Sorted.{IsStrictlyIncreasing}
-use Rattle.std.proofs.lemmas.Bool.{and_parts, eq-eqb, eqb-true, ne_eqb, or_right}
+use Rattle.std.proofs.lemmas.Bool.{and_parts, cases_eq, eq-eqb, eqb-true, ne_eqb, or_right}
 use Rattle.std.proofs.lemmas.Bool.Decides.{eqb_tells}
 use Rattle.std.proofs.lemmas.List.{get_or_past}
-use Rattle.std.proofs.lemmas.List.Elements.{All-nil, All-cons, All-head, All-tail, All-weaker, filter-append}
+use Rattle.std.proofs.lemmas.List.Elements.{All-head, All-tail, All-weaker, filter-append}
 use Rattle.std.proofs.lemmas.List.Folds.{list_any_at}
 use Rattle.std.proofs.lemmas.List.Kept.{IsStrictlyIncreasing-filter}
 use Rattle.std.proofs.lemmas.List.FromFn.{length-range_with_len}
+use Rattle.std.proofs.lemmas.Option.{slice_get-get_or}
 use Rattle.list_laws.specs.Among.{is_among, place_of}
-use Rattle.graph_model.specs.Arcs.{Arc, out_arc, in_arc, arcs_of}
+use Rattle.graph_model.specs.Arcs.{Arc, out_arc}
 use Rattle.graph_model.specs.Graph.{IsWithin, IsBySource}
 use Rattle.graph_model.specs.declared.edge.Edge.{Edge}
 use Rattle.graph_model.specs.declared.edge.Way.TheVariants.{Outward, Inward}
 use Rattle.graph_division.specs.Lists.{is_mirror, is_readable, is_writable}
-use Rattle.graph_division.specs.Shares.{Share, IsShare, nodes_of, seen, in_file_order, masters_here, mirrors_here, proxies_here}
+use Rattle.graph_division.specs.Shares.{Share, IsShare, nodes_of, seen, masters_here, mirrors_here, proxies_here}
 use Rattle.graph_division.proofs.PrunedLists.{range_rises}
 use Rattle.graph_division.proofs.FileOrder.{joined_same, filter_none, file_order_stays}
-use Rattle.proxy_graph.specs.Heads.{heads_from, lid_of, vertex_at}
+use Rattle.proxy_graph.specs.Heads.{lid_of, vertex_at}
 use Rattle.proxy_graph.specs.Keyed.{with_key}
-use Rattle.proxy_graph.specs.Runs.{AreRuns, KeepsArcs, arcs_at, part_at, count_at}
-use Rattle.proxy_graph.specs.Sides.{AreKeyed, AreSorted, arc_of, key_of, end_of}
+use Rattle.proxy_graph.specs.Runs.{KeepsArcs, arcs_at, count_at, start_at}
+use Rattle.proxy_graph.specs.Sides.{Side, Out, Back, AreKeyed, AreSorted, AreTogether, arc_of, arc_pair, edge_at, key_of, end_of}
 use Rattle.proxy_graph.specs.Numbering.{is_hosted, is_end, has_mark, AreMarks, AreNumbered, IsLidOf}
 use Rattle.proxy_graph.specs.Kept.{edge_from, edges_of, share_of, proxies_of, Keeps, IsKept}
 use Rattle.proxy_graph.specs.declared.local_graph.LocalGraph.TheInside.{Inside}
 use Rattle.proxy_graph.specs.declared.arcs.Arcs.{Arcs}
-use Rattle.proxy_graph.specs.declared.side.Side.{Side}
-use Rattle.proxy_graph.specs.declared.side.Side.TheVariants.{Out, Back}
 use Rattle.proxy_graph.proofs.Keyed.{picked_pass}
 use Rattle.proxy_graph.proofs.NumberingSteps.{hosted_is}
 use Rattle.proxy_graph.proofs.Lids.{hosted_true, hosted_before, hosted_behind, lid_is_place, place_is, place_none, lid_among}
@@ -214,20 +213,20 @@ module _ (share : Share) (table : List ℕ) (only : OnlyPlaces share) where
 
   -- the sorted arcs of a key are those that the share has there
   arcs_are : (side : Side) (lid : ℕ) → lid < length (proxies_here share) → (edges : List Edge) → All (IsNamed share table) edges
-      → map (λ edge. (end_of side table edge, edge.weight)) (with_key (key_of side table) lid edges) ≡ map pair (filter (λ arc. arc.tail == vertex_at share lid) (map (arc_of side) edges))
+      → map (arc_pair side table) (with_key (key_of side table) lid edges) ≡ map pair (filter (λ arc. arc.tail == vertex_at share lid) (map (arc_of side) edges))
   arcs_are side lid known [] named = refl
   arcs_are side lid known (edge ∷ edges) named =
       let is = All-head (IsNamed share table) edge edges named in
       let same : (end_of side table edge, edge.weight) ≡ pair (arc_of side edge)
       = ap (λ (k : ℕ). (k, edge.weight)) (sym (only (arc_of side edge).head (end_of side table edge) (head_lid side edge is))) ∙ ap (λ (w : ℕ). (lid_of share (arc_of side edge).head, w)) (sym (weight_stays side edge)) in
-      ap (λ b. map (λ e. (end_of side table e, e.weight)) (cond b (edge ∷ with_key (key_of side table) lid edges) (with_key (key_of side table) lid edges))) (same_test side edge lid is known)
+      ap (λ b. map (arc_pair side table) (cond b (edge ∷ with_key (key_of side table) lid edges) (with_key (key_of side table) lid edges))) (same_test side edge lid is known)
       ∙ step ((arc_of side edge).tail == vertex_at share lid) same (arcs_are side lid known edges (All-tail (IsNamed share table) edge edges named))
     where
       step : (b : Bool) → (end_of side table edge, edge.weight) ≡ pair (arc_of side edge)
-          → map (λ e. (end_of side table e, e.weight)) (with_key (key_of side table) lid edges) ≡ map pair (filter (λ arc. arc.tail == vertex_at share lid) (map (arc_of side) edges))
-          → map (λ e. (end_of side table e, e.weight)) (cond b (edge ∷ with_key (key_of side table) lid edges) (with_key (key_of side table) lid edges))
+          → map (arc_pair side table) (with_key (key_of side table) lid edges) ≡ map pair (filter (λ arc. arc.tail == vertex_at share lid) (map (arc_of side) edges))
+          → map (arc_pair side table) (cond b (edge ∷ with_key (key_of side table) lid edges) (with_key (key_of side table) lid edges))
           ≡ map pair (cond b (arc_of side edge ∷ filter (λ arc. arc.tail == vertex_at share lid) (map (arc_of side) edges)) (filter (λ arc. arc.tail == vertex_at share lid) (map (arc_of side) edges)))
-      step true same rest = ap (λ x. x ∷ map (λ e. (end_of side table e, e.weight)) (with_key (key_of side table) lid edges)) same ∙ ap (λ xs. pair (arc_of side edge) ∷ xs) rest
+      step true same rest = ap (λ x. x ∷ map (arc_pair side table) (with_key (key_of side table) lid edges)) same ∙ ap (λ xs. pair (arc_of side edge) ∷ xs) rest
       step false same rest = rest
 
   pub keeps_out : (arcs : Arcs) → All (IsNamed share table) share.edges → AreSorted Out (length (proxies_here share)) table share.edges arcs → KeepsArcs Outward share arcs
@@ -277,8 +276,8 @@ module _ (share : Share) (arcs : Arcs) (only : OnlyPlaces share) (keeps : KeepsA
   no_arcs : arcs_at arcs (length (proxies_here share)) ≡ []
   no_arcs =
       let keys = length (proxies_here share) in
-      let none : count_at arcs.starts.items keys ≡ 0 = omega (arith, get_or_past arcs.starts.items (keys + 1) 0 (omega (arith, keeps.runs.long))) in
-      ap (λ (n : ℕ). zip (take n (drop (slice_index arcs.starts.items keys) arcs.ends.items)) (take n (drop (slice_index arcs.starts.items keys) arcs.weights.items))) none
+      let none : count_at arcs keys ≡ 0 = omega (arith, get_or_past arcs.ends.items keys 0 (omega (arith, keeps.runs.ended))) in
+      ap (λ (n : ℕ). take n (drop (start_at arcs keys) arcs.heads.items)) none
 
   -- the edges from each vertex
   edges_from : (v : ℕ) → All (λ edge. is_among (proxies_here share) edge.src ≡ true) share.edges → All (λ edge. is_among (proxies_here share) edge.dst ≡ true) share.edges
@@ -329,25 +328,43 @@ module _ (share : Share) (first count : ℕ) (marks table mirrors : List ℕ)
   pub proxies_long : length (proxies_here share) ≡ count + length mirrors
   proxies_long = omega (arith, ap length (proxies_are share first count marks table mirrors vertices row marked numbered), length-append (range_with_len first count) mirrors, length-range_with_len first count)
 
+  only_places : OnlyPlaces share
+  only_places = lid_is share first count marks table mirrors vertices row marked numbered
+
   -- the table gives each end a key
   pub keyed : (side : Side) → AreKeyed side (count + length mirrors) table share.edges
   keyed side = record {
     within = λ k d below. let ends = within k d below in let long = table_long in (omega (arith, ends.0, long), omega (arith, ends.1, long));
-    known = λ k d below. let is = tail_lid share table only side (slice_index_or share.edges k d) (names k d below) in omega (arith, is.within, proxies_long);
+    known = λ k d below. let is = tail_lid share table only_places side (slice_index_or share.edges k d) (names k d below) in omega (arith, is.within, proxies_long);
   }
     where
       table_long : length table ≡ nodes_of share
       table_long = numbered.long ∙ marked.long
 
-      only : OnlyPlaces share
-      only = lid_is share first count marks table mirrors vertices row marked numbered
+  -- edges by source have those of one key side by side
+  pub together : IsBySource share.edges → AreTogether (key_of Out table) share.edges
+  together ordered i j k low high below same = ap (slice_index table) sources
+    where
+      named : (n : ℕ) → n < length share.edges → IsNamed share table (edge_at share.edges n)
+      named n inside = names n _ inside
+
+      -- two places in order have sources in order
+      rises : (n m : ℕ) → n ≤ m → m < length share.edges → (edge_at share.edges n).src ≤ (edge_at share.edges m).src
+      rises n m order inside = elim (cases_eq n m) [
+        | inl one ↦ omega (arith, ap {B = ℕ} (λ (at : ℕ). (edge_at share.edges at).src) one)
+        | inr apart ↦ ordered n m (edge_at share.edges n) (edge_at share.edges m) (omega arith) (slice_get-get_or share.edges n _ (omega arith)) (slice_get-get_or share.edges m _ inside)
+      ]
+
+      -- one key is one source
+      outer : (edge_at share.edges i).src ≡ (edge_at share.edges k).src
+      outer = sym (named i (omega arith)).source.here ∙ ap (slice_index (proxies_here share)) same ∙ (named k below).source.here
+
+      sources : (edge_at share.edges j).src ≡ (edge_at share.edges k).src
+      sources = omega (arith, rises i j low (omega arith), rises j k high below, outer)
 
   module _ (is_share : IsShare share) (graph : Inside) (hosted : graph.host ≡ share.host) (hosts : graph.masters.hosts ≡ share.hosts) (masters : graph.masters.masters ≡ share.masters) (nodes : graph.nodes ≡ nodes_of share)
       (begins : graph.first ≡ first) (long : graph.count ≡ count) (mirrored : graph.mirrors.items ≡ mirrors)
       (out : AreSorted Out (count + length mirrors) table share.edges graph.out) (back : AreSorted Back (count + length mirrors) table share.edges graph.back) where
-    only_places : OnlyPlaces share
-    only_places = lid_is share first count marks table mirrors vertices row marked numbered
-
     out_kept : KeepsArcs Outward share graph.out
     out_kept = keeps_out share table only_places graph.out names (subst (λ (keys : ℕ). AreSorted Out keys table share.edges graph.out) (sym proxies_long) out)
 

@@ -2,6 +2,7 @@ pub mod Read
 pub mod Keyed
 pub mod CountingSteps
 pub mod CountedOut
+pub mod Delimited
 pub mod NumberingSteps
 pub mod Lids
 pub mod Assembled

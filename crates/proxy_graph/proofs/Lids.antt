@@ -1,18 +1,15 @@
 -- The local numbers of vertices are their places among the proxies.
-use Rattle.std.proofs.Common.{◌≡◌, ◌≢◌, ℕ, zero, suc, ◌+◌, ◌-◌, ◌<◌, ◌≤◌, true, false, Bool, cond, not, ◌&&◌, ◌||◌, ◌==◌, nat_lt, nat_le, List, [], ◌∷◌, ◌++◌, length, slice_index, slice_index_or, refl, sym, ◌∙◌, ap, arith, inl, inr, subst, length-append}
-use Rattle.std.specs.List.{All, filter, list_any, range_with_len}
+use Rattle.std.proofs.Common.{◌≡◌, ℕ, suc, ◌+◌, ◌-◌, ◌<◌, ◌≤◌, true, false, Bool, cond, not, ◌&&◌, ◌||◌, ◌==◌, nat_lt, List, [], ◌∷◌, ◌++◌, length, slice_index, refl, sym, ◌∙◌, ap, arith, inl, inr, subst, length-append}
+use Rattle.std.specs.List.{All, range_with_len}
 use Rattle.std.specs.List.Sorted.{IsStrictlyIncreasing}
-use Rattle.std.proofs.lemmas.Bool.{and_parts, cases_lt, cases_eq, eq-eqb, ne_eqb, le-leb, lt-leb, le-ltb, lt-ltb}
-use Rattle.std.proofs.lemmas.List.{get_or_append_left, get_or-append_right, get_or_default}
-use Rattle.std.proofs.lemmas.List.Elements.{filter-append}
-use Rattle.std.proofs.lemmas.List.Folds.{list_any_at, list_any_none}
+use Rattle.std.proofs.lemmas.Bool.{cases_lt, cases_eq, eq-eqb, ne_eqb, le-leb, lt-leb, le-ltb, lt-ltb}
+use Rattle.std.proofs.lemmas.List.{get_or_append_left, get_or-append_right}
+use Rattle.std.proofs.lemmas.List.Folds.{list_any_at}
 use Rattle.std.proofs.lemmas.List.FromFn.{length-range_with_len, get_or-range_with_len}
 use Rattle.list_laws.specs.Among.{is_among, place_of}
-use Rattle.list_laws.specs.Rising.{Rises}
 use Rattle.list_laws.proofs.Among.{place_of-at, among_range}
 use Rattle.list_laws.proofs.Rising.{Rises-range, Rises-from_increasing}
 use Rattle.proxy_graph.specs.Numbering.{IsLidOf, is_hosted}
-use Rattle.proxy_graph.proofs.NumberingSteps.{hosted_is}
 use Rattle.proxy_graph.proofs.Read.{outside_range}
 
 -- the vertices that are hosted, those before and those behind

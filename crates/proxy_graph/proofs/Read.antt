@@ -8,13 +8,12 @@ use Rattle.std.proofs.lemmas.List.Sorted.{searched}
 use Rattle.list_laws.proofs.Places.{All-at}
 use Rattle.list_laws.proofs.Rising.{Rises-from_increasing, in_order}
 use Rattle.graph_model.specs.Graph.{most_nodes}
-use Rattle.std.proofs.lemmas.List.{map-append, length-take, length-map, get_or_append_left, get_or-append_right}
+use Rattle.std.proofs.lemmas.List.{map-append, length-take-le, length-map, get_or_append_left, get_or-append_right}
 use Rattle.std.proofs.lemmas.List.Elements.{All-append, filter-append}
 use Rattle.std.proofs.lemmas.List.Folds.{list_any-append, list_any_none}
 use Rattle.std.proofs.lemmas.List.Kept.{IsStrictlyIncreasing-filter}
 use Rattle.std.proofs.lemmas.List.FromFn.{length-range_with_len, get_or-range_with_len}
 use Rattle.std.proofs.lemmas.Option.{slice_get-get_or}
-use Rattle.std.proofs.lemmas.Slice.Zip.{length-zip}
 use Rattle.list_laws.specs.Among.{is_among}
 use Rattle.graph_model.specs.Arcs.{Arc, out_arc, in_arc, arcs_of}
 use Rattle.graph_model.specs.declared.edge.Edge.{Edge}
@@ -24,7 +23,7 @@ use Rattle.graph_division.specs.Lists.{is_readable, is_writable, is_mirror}
 use Rattle.graph_division.specs.Shares.{Share, nodes_of, seen, masters_here, mirrors_here, proxies_here}
 use Rattle.graph_division.proofs.PrunedLists.{picked_below, range_rises}
 use Rattle.proxy_graph.specs.Heads.{heads_from, vertex_at, lid_of}
-use Rattle.proxy_graph.specs.Runs.{AreRuns, KeepsArcs, arcs_at, part_at, count_at}
+use Rattle.proxy_graph.specs.Runs.{AreRuns, KeepsArcs, arcs_at, count_at, start_at}
 use Rattle.proxy_graph.specs.Kept.{Keeps, IsKept, share_of, proxies_of}
 use Rattle.proxy_graph.specs.declared.arcs.Arcs.{Arcs}
 use Rattle.proxy_graph.specs.declared.local_graph.LocalGraph.TheInside.{Inside}
@@ -145,25 +144,14 @@ found_at ids x place rise answer =
     searched ids x (Ok place) answer (λ i j order within. in_order 0 ids i j rises order within)
 
 -- how many arcs a key has
-length-arcs_at : (keys : ℕ) (arcs : Arcs) (lid : ℕ) → AreRuns keys arcs → lid < keys → length (arcs_at arcs lid) ≡ count_at arcs.starts.items lid
+length-arcs_at : (keys : ℕ) (arcs : Arcs) (lid : ℕ) → AreRuns keys arcs → lid < keys → length (arcs_at arcs lid) ≡ count_at arcs lid
 length-arcs_at keys arcs lid runs known =
-    let from = slice_index arcs.starts.items lid in
-    let count = count_at arcs.starts.items lid in
-    omega (
-      arith,
-      length-zip (part_at arcs.starts.items lid arcs.ends.items) (part_at arcs.starts.items lid arcs.weights.items),
-      length-take count (drop from arcs.ends.items),
-      length-take count (drop from arcs.weights.items),
-      length-drop from arcs.ends.items,
-      length-drop from arcs.weights.items,
-      runs.paired,
-      runs.rises lid known,
-      runs.within lid known,
-    )
+    let rest = drop (start_at arcs lid) arcs.heads.items in
+    length-take-le (count_at arcs lid) rest (omega (arith, length-drop (start_at arcs lid) arcs.heads.items, runs.rises lid known, runs.within lid known))
 
 module _ (share : Share) where
   -- whether a proxy has an arc is told by its starts
-  pub has_arc : (way : Way) (arcs : Arcs) (lid : ℕ) → KeepsArcs way share arcs → lid < length (proxies_here share) → nat_lt 0 (count_at arcs.starts.items lid) ≡ is_readable (seen way share) share.host (vertex_at share lid)
+  pub has_arc : (way : Way) (arcs : Arcs) (lid : ℕ) → KeepsArcs way share arcs → lid < length (proxies_here share) → nat_lt 0 (count_at arcs lid) ≡ is_readable (seen way share) share.host (vertex_at share lid)
   has_arc way arcs lid keeps known =
       let tails : Arc → Bool = λ arc. arc.tail == vertex_at share lid in
       ap (nat_lt 0) (
@@ -172,10 +160,10 @@ module _ (share : Share) where
       ∙ length-map (filter tails (arcs_of way share.edges)) (λ arc. (lid_of share arc.head, arc.weight)))
       ∙ any_passes tails (arcs_of way share.edges)
 
-  pub has_out : (arcs : Arcs) (lid : ℕ) → KeepsArcs Outward share arcs → lid < length (proxies_here share) → nat_lt 0 (count_at arcs.starts.items lid) ≡ is_readable (seen Outward share) share.host (vertex_at share lid)
+  pub has_out : (arcs : Arcs) (lid : ℕ) → KeepsArcs Outward share arcs → lid < length (proxies_here share) → nat_lt 0 (count_at arcs lid) ≡ is_readable (seen Outward share) share.host (vertex_at share lid)
   has_out = has_arc Outward
 
-  pub has_in : (arcs : Arcs) (lid : ℕ) → KeepsArcs Inward share arcs → lid < length (proxies_here share) → nat_lt 0 (count_at arcs.starts.items lid) ≡ is_writable (seen Outward share) share.host (vertex_at share lid)
+  pub has_in : (arcs : Arcs) (lid : ℕ) → KeepsArcs Inward share arcs → lid < length (proxies_here share) → nat_lt 0 (count_at arcs lid) ≡ is_writable (seen Outward share) share.host (vertex_at share lid)
   has_in arcs lid keeps known = has_arc Inward arcs lid keeps known ∙ turned share.edges (vertex_at share lid)
 
   -- both ways a vertex has the arcs of either

@@ -4,4 +4,5 @@ pub mod Kept
 pub mod Keyed
 pub mod Sides
 pub mod Counting
+pub mod Delimiting
 pub mod Numbering

@@ -1,5 +1,5 @@
 -- How vertices get their local numbers: through a table of marks, in which numbers then take the place of marks.
-use Rattle.std.specs.Prelude.{◌≡◌, ℕ, ◌+◌, ◌-◌, ◌<◌, ◌≤◌, ◌==◌, nat_le, nat_lt, Bool, true, not, ◌&&◌, ◌||◌, cond, List, ◌++◌, length, slice_index}
+use Rattle.std.specs.Prelude.{◌≡◌, ℕ, ◌-◌, ◌<◌, ◌≤◌, ◌==◌, nat_le, nat_lt, Bool, true, not, ◌&&◌, ◌||◌, cond, List, ◌++◌, length, slice_index}
 use Rattle.std.specs.List.{filter, list_any, range_with_len}
 use Rattle.graph_model.specs.declared.edge.Edge.{Edge}
 

@@ -4,12 +4,12 @@
 
 mod arc_view;
 mod arcs;
-mod counting;
 mod file_order;
 mod heads;
+mod in_arcs;
 mod local_graph;
 mod numbering;
-mod side;
+mod out_arcs;
 
 pub use arc_view::ArcView;
 pub use heads::Heads;

@@ -10,11 +10,11 @@ ghost use Rattle.proxy_graph.specs.Heads.{vertex_at, heads_from};
 
 use crate::arc_view::ArcView;
 use crate::arcs::Arcs;
-use crate::counting::sorted;
 use crate::file_order::{by_source, is_by_source};
 use crate::heads::Heads;
+use crate::in_arcs::in_arcs;
 use crate::numbering::{marked, numbered};
-use crate::side::Side;
+use crate::out_arcs::out_arcs;
 use cusp_rules::Masters;
 use graph_model::{Edge, Way};
 use std::alloc::{AllocError, Global};
@@ -97,8 +97,8 @@ impl LocalGraph {
         let mut table = marked(alloc, nodes, edges)?;
         let mirrors = numbered(alloc, first, count, &mut table)?;
         let proxies = count + mirrors.len() as u32;
-        let out = sorted(alloc, Side::Out, proxies, &table, edges)?;
-        let back = sorted(alloc, Side::Back, proxies, &table, edges)?;
+        let out = out_arcs(alloc, proxies, &table, edges)?;
+        let back = in_arcs(alloc, proxies, &table, edges, &out.heads)?;
         Ok(LocalGraph {
             host,
             nodes,
@@ -155,7 +155,7 @@ impl LocalGraph {
     pub fn edges(&self) -> u32
         ensures { result ≡ length self.now.edges }
     {
-        self.out.ends.len() as u32
+        self.out.heads.len() as u32
     }
 
     /// The vertex of the proxy with this local number.
@@ -248,8 +248,7 @@ impl LocalGraph {
         requires { tail < length (proxies_here self.now) }
         ensures { result ≡ heads_from Outward self.now tail }
     {
-        let (heads, weights) = self.out.of(self.proxies(), tail);
-        Heads::new(heads, weights)
+        Heads::new(self.out.of(self.proxies(), tail))
     }
 
     /// The in-arcs of a proxy.
@@ -257,8 +256,7 @@ impl LocalGraph {
         requires { tail < length (proxies_here self.now) }
         ensures { result ≡ heads_from Inward self.now tail }
     {
-        let (heads, weights) = self.back.of(self.proxies(), tail);
-        Heads::new(heads, weights)
+        Heads::new(self.back.of(self.proxies(), tail))
     }
 
     /// The out-arcs of a proxy, and then its in-arcs.
@@ -267,8 +265,7 @@ impl LocalGraph {
         ensures { result ≡ heads_from Both self.now tail }
     {
         let proxies = self.proxies();
-        let (heads, weights) = self.out.of(proxies, tail);
-        let (next_heads, next_weights) = self.back.of(proxies, tail);
-        Heads::chained(heads, weights, next_heads, next_weights)
+        let heads = self.out.of(proxies, tail);
+        Heads::chained(heads, self.back.of(proxies, tail))
     }
 }

@@ -37,3 +37,29 @@ module _ {X : Type 0} where
   pub count_more : (p q : X → Bool) → ((x : X) → cond {A = ℕ} (p x) 1 0 ≤ cond (q x) 1 0) → (xs : List X) → count_by p xs ≤ count_by q xs
   count_more p q weaker [] = omega arith
   count_more p q weaker (x ∷ xs) = omega (arith, count-cons p x xs, count-cons q x xs, weaker x, count_more p q weaker xs)
+
+  -- one counts once at most
+  count-cons-le : (p : X → Bool) (x : X) (xs : List X) → count_by p (x ∷ xs) ≤ 1 + count_by p xs
+  count-cons-le p x xs = omega (arith, count-cons p x xs, once (p x))
+    where
+      once : (b : Bool) → cond {A = ℕ} b 1 0 ≤ 1
+      once true = omega arith
+      once false = omega arith
+
+  -- no more pass than stand before a place from which on none does
+  pub count_le : (p : X → Bool) (xs : List X) (i : ℕ) → ((k : ℕ) (x : X) → i ≤ k → slice_get xs k ≡ Some x → p x ≡ false) → count_by p xs ≤ i
+  count_le p [] i fails = omega arith
+  count_le p (x ∷ xs) zero fails =
+      let rest = count_le p xs 0 (λ k y high at. fails (suc k) y (omega arith) at) in
+      omega (arith, count-cons p x xs, ap {B = ℕ} (λ b. cond b 1 0) (fails 0 x (omega arith) refl), rest)
+  count_le p (x ∷ xs) (suc i) fails =
+      let rest = count_le p xs i (λ k y high at. fails (suc k) y (omega arith) at) in
+      omega (arith, count-cons-le p x xs, rest)
+
+  -- no fewer pass than stand before a place up to which all do
+  pub le_count : (p : X → Bool) (xs : List X) (i : ℕ) → i ≤ length xs → ((k : ℕ) (x : X) → k < i → slice_get xs k ≡ Some x → p x ≡ true) → i ≤ count_by p xs
+  le_count p xs zero within passes = omega arith
+  le_count p [] (suc i) within passes = absurd (omega arith)
+  le_count p (x ∷ xs) (suc i) within passes =
+      let rest = le_count p xs i (omega arith) (λ k y low at. passes (suc k) y (omega arith) at) in
+      omega (arith, count-cons p x xs, ap {B = ℕ} (λ b. cond b 1 0) (passes 0 x (omega arith) refl), rest)

@@ -98,7 +98,7 @@ starts_end graph starts next long short kept filled so_far =
     ∙ sym (start_at graph v 0 (omega arith)))
 
 -- later vertices do not start before
-below_rises : (edges : List Edge) (v w : ℕ) → v ≤ w → below edges v ≤ below edges w
+pub below_rises : (edges : List Edge) (v w : ℕ) → v ≤ w → below edges v ≤ below edges w
 below_rises edges v w order = count_more (λ edge. nat_lt edge.src v) (λ edge. nat_lt edge.src w) (λ edge.
     elim (cases_lt edge.src v) [
       | inl low ↦ omega (arith, ap {B = ℕ} (λ b. cond b 1 0) (lt-ltb edge.src w (omega arith)), one (nat_lt edge.src v))

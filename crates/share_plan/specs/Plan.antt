@@ -1,9 +1,10 @@
 -- What has to be known of a graph to tell the host of each vertex and of each edge.
-use Rattle.std.specs.Prelude.{ℕ, ◌+◌, ◌-◌, List, slice_index}
+use Rattle.std.specs.Prelude.{ℕ, ◌+◌, ◌-◌, Bool, true, false, ◌||◌, ◌==◌, List, slice_index}
 use Rattle.graph_model.specs.declared.edge.Edge.{Edge}
 use Rattle.graph_model.specs.Graph.{Graph}
 use Rattle.cusp_rules.specs.Formulas.{masters_of}
 use Rattle.edge_owner.specs.declared.owner_rule.OwnerRule.{OwnerRule}
+use Rattle.edge_owner.specs.declared.owner_rule.OwnerRule.TheVariants.{Source, Dest, Hybrid, Cartesian}
 use Rattle.edge_owner.specs.declared.rules.Rules.{Rules}
 use Rattle.edge_owner.specs.Owner.{owner_of}
 use Rattle.share_plan.specs.Starts.{starts_of}
@@ -29,3 +30,14 @@ plan_of rules hosts graph = record {
   masters = masters_of rules.masters hosts (starts_of graph);
   starts = starts_of graph;
 }
+
+-- whether this is the rule by which edges go to the master of their source
+abbrev pub is_source : OwnerRule → Bool
+is_source Source = true
+is_source Dest = false
+is_source (Hybrid threshold) = false
+is_source Cartesian = false
+
+-- whether each edge is with the master of its source
+abbrev pub sources_own : Plan → Bool
+sources_own plan = is_source plan.rule || plan.hosts == 1

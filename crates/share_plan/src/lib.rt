@@ -8,6 +8,7 @@
 mod laws;
 mod plan;
 mod starts;
+mod table;
 
 pub use laws::{
     arcs_are_shared, cartesian_has_no_both, dest_has_no_in, edges_have_owners, plans_tell_owners,

@@ -1,7 +1,9 @@
 //! What tells the host of each vertex and of each edge.
-ghost use Rattle.std.specs.Prelude.{◌≡◌, ◌<◌, length, All, IfOk};
+ghost use Rattle.std.specs.Prelude.{◌≡◌, ◌<◌, ◌≤◌, ◌==◌, length, map, slice_index, All, IfOk, IsTrue};
+ghost use Rattle.std.specs.List.{filter};
 
 use crate::starts::starts;
+use crate::table::table;
 use cusp_rules::Masters;
 use edge_owner::{OwnerRule, Rules, owner};
 use graph_model::{Edge, EdgeList};
@@ -13,6 +15,8 @@ use std::marker::Model;
 pub struct SharePlan {
     rule: OwnerRule,
     masters: Masters,
+    /// The master of each vertex once more, where one look tells it.
+    table: Vec<u8>,
     starts: Vec<u32>,
 }
 
@@ -25,14 +29,15 @@ impl Model for SharePlan {
 
     ghost view = { λ plan. record { rule = plan.rule; hosts = plan.masters.hosts; masters = plan.masters.masters; starts = plan.starts.items } };
 
-    ghost invariant = { λ plan. IsStarts plan.starts.items × (length plan.starts.items ≡ length plan.masters.masters + 1) };
+    ghost invariant = { λ plan. IsStarts plan.starts.items × (length plan.starts.items ≡ length plan.masters.masters + 1) × (plan.table.items ≡ plan.masters.masters) };
 }
 
 impl SharePlan {
     ghost use Rattle.graph_model.specs.Graph.{IsWithin};
     ghost use Rattle.share_plan.specs.Owners.{owner_at};
     ghost use Rattle.cusp_rules.specs.Hosts.{IsHostCount};
-    ghost use Rattle.share_plan.specs.Plan.{Plan, owner_by, plan_of};
+    ghost use Rattle.share_plan.specs.Plan.{Plan, owner_by, plan_of, sources_own};
+    ghost use Rattle.share_plan.specs.Starts.{starts_of};
 
     /// The plan of a graph by these rules, for 1 to 64 hosts. It takes time in proportion to vertices and
     /// edges together.
@@ -50,9 +55,11 @@ impl SharePlan {
     {
         let starts = starts(alloc, list.nodes(), list.edges())?;
         let masters = Masters::new(alloc, rules.masters, hosts, &starts)?;
+        let table = table(alloc, list.nodes(), &masters)?;
         Ok(SharePlan {
             rule: rules.owner,
             masters,
+            table,
             starts,
         })
     }
@@ -70,15 +77,50 @@ impl SharePlan {
         requires { IsWithin (length self.now.masters) edge }
         ensures owner { result ≡ owner_by self.now edge }
         ensures host { result < self.now.hosts }
+        ensures few_hosts { self.now.hosts ≤ 64 }
     {
         let first = self.starts[edge.src as usize];
         let end = self.starts[edge.src as usize + 1];
         owner(
             self.rule,
             self.masters.hosts(),
-            self.masters.master(edge.src),
-            self.masters.master(edge.dst),
+            u16::from(self.table[edge.src as usize]),
+            u16::from(self.table[edge.dst as usize]),
             end - first,
         )
+    }
+
+    /// The host that owns each of these edges between vertices of the graph.
+    pub fn owners(&self, alloc: Global, edges: &[Edge]) -> Result<Vec<u8>, AllocError>
+        requires { All (IsWithin (length self.now.masters)) edges.now }
+        ensures owners { IfOk result (λ owners. owners.items ≡ map (owner_by self.now) edges.now) }
+        ensures hosts { IfOk result (λ owners. All (λ owner. owner < self.now.hosts) owners.items) }
+    {
+        let mut owners = Vec::with_capacity(alloc, edges.len())?;
+        for edge in edges {
+            owners.push(self.owner(*edge) as u8)?;
+        }
+        Ok(owners)
+    }
+
+    /// Whether each edge is with the master of its source, as where there is one host.
+    pub fn sources_own(&self) -> bool
+        ensures value { result ≡ sources_own self.now }
+        ensures owners { IsTrue result → (edge : Edge) → IsWithin (length self.now.masters) edge
+            → owner_by self.now edge ≡ slice_index self.now.masters edge.src }
+    {
+        self.rule == OwnerRule::Source || self.masters.hosts() == 1
+    }
+
+    /// The edges whose source has this master, of the list that the plan was made of. They lie side by side.
+    pub fn edges_from<'a>(&self, list: &'a EdgeList, host: u16) -> &'a [Edge]
+        requires host { host < self.now.hosts }
+        requires list { self.now.starts ≡ starts_of list.now }
+        ensures { result.now ≡ filter (λ edge. slice_index self.now.masters edge.src == host) list.now.edges }
+    {
+        let (first, end) = self.masters.range(host);
+        let from = self.starts[first as usize] as usize;
+        let to = self.starts[end as usize] as usize;
+        &list.edges()[from..to]
     }
 }

@@ -1,4 +1,4 @@
-use Rattle.std.proofs.Common.{ℕ, set, subst, ◌≡◌, ◌+◌, ◌-◌, ◌<◌, List, ◌++◌, [], ◌∷◌, length, slice_index, arith, ap, sym, ◌∙◌}
+use Rattle.std.proofs.Common.{ℕ, set, subst, ◌≡◌, ◌+◌, ◌<◌, List, length, arith, ap, sym, ◌∙◌}
 use Rattle.proxy_graph.specs.Numbering.{AreNumbered}
 use Rattle.proxy_graph.proofs.NumberingSteps.{next_master, next_mirror, next_none, few_mirrors}
 use Rattle.proxy_graph.proofs.numbering.numbered.Goals as goal

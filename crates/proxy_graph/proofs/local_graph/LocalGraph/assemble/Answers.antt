@@ -1,8 +1,7 @@
-use Rattle.std.proofs.Common.{rules, IfOk, ◌≡◌, ◌≤◌, List, length, ap, sym, ◌∙◌, arith, subst}
+use Rattle.std.proofs.Common.{rules, IfOk, ◌≡◌, List, length, ap, sym, ◌∙◌, arith, subst}
 use Rattle.std.specs.List.{All}
-use Rattle.graph_model.specs.Graph.{IsWithin, IsBySource, most_edges}
+use Rattle.graph_model.specs.Graph.{IsWithin, IsBySource}
 use Rattle.graph_model.specs.declared.edge.Edge.{Edge}
-use Rattle.graph_division.specs.Shares.{in_file_order}
 use Rattle.graph_division.proofs.FileOrder.{file_order_stays}
 use Rattle.proxy_graph.proofs.InFileOrder.{few_in_file_order, All-in_file_order, IsBySource-in_file_order}
 use Rattle.proxy_graph.proofs.local_graph.LocalGraph.assemble.Goals as goal

@@ -1,18 +1,16 @@
-use Rattle.std.proofs.Common.{◌≡◌, ℕ, ◌+◌, ◌-◌, ◌<◌, ◌≤◌, List, length, take, slice_index, arith, ap, sym, ◌∙◌, subst, refl}
+use Rattle.std.proofs.Common.{◌≡◌, ℕ, ◌+◌, ◌-◌, ◌≤◌, List, length, arith, ap, sym, ◌∙◌, subst, refl}
 use Rattle.std.specs.List.{All}
 use Rattle.std.proofs.lemmas.List.{take_at}
-use Rattle.graph_model.specs.Graph.{IsWithin, IsWeighed, most_nodes, most_edges}
+use Rattle.graph_model.specs.Graph.{IsWithin}
 use Rattle.graph_model.specs.declared.edge.Edge.{Edge}
-use Rattle.graph_division.specs.Shares.{Share, IsShare, nodes_of}
+use Rattle.graph_division.specs.Shares.{IsShare, nodes_of}
 use Rattle.proxy_graph.specs.Numbering.{AreMarks}
-use Rattle.proxy_graph.specs.Sides.{AreKeyed, AreSorted}
+use Rattle.proxy_graph.specs.Sides.{Side, Out, Back, AreKeyed, AreSorted, AreTogether, key_of}
 use Rattle.cusp_rules.specs.Assignment.{Assignment}
 use Rattle.proxy_graph.specs.declared.arcs.Arcs.{Arcs}
 use Rattle.proxy_graph.specs.declared.local_graph.LocalGraph.TheInside.{Inside}
-use Rattle.proxy_graph.specs.declared.side.Side.{Side}
-use Rattle.proxy_graph.specs.declared.side.Side.TheVariants.{Out, Back}
 use Rattle.proxy_graph.proofs.Read.{few_proxies}
-use Rattle.proxy_graph.proofs.Assembled.{share_with, numbered_is, vertices_are, proxies_long, keyed, kept_fields, stands}
+use Rattle.proxy_graph.proofs.Assembled.{share_with, numbered_is, vertices_are, proxies_long, keyed, together, kept_fields, stands}
 use Rattle.proxy_graph.proofs.local_graph.LocalGraph.build.Goals as goal
 
 -- a fact at the number of nodes
@@ -50,32 +48,8 @@ overflow_add-proxies c =
     let numbered = numbered_is first count (nodes_of share) share.edges c.in_ok-table.table.items c.deref_mut.result.now c.numbered.new.table c.in_ok-mirrors.mirrors.items marked c.deref_mut.ensures.value c.in_ok-mirrors.ensures in
     omega (arith, proxies_long share first count c.in_ok-table.table.items c.numbered.new.table c.in_ok-mirrors.mirrors.items within vertices row marked numbered, few_proxies share, c.len.ensures, c.in_ok-mirrors.mirrors.ok.0, c.requires)
 
-pub sorted-requires-clause-few_keys : goal.sorted-requires-clause-few_keys
-sorted-requires-clause-few_keys c =
-    let share = share_with c.args.host c.args.masters.now.hosts c.args.masters.now.masters c.args.edges.now in
-    let first = c.range-first.result.0 in
-    let count = c.range-first.result.1 - c.range-first.result.0 in
-    let vertices = vertices_are first c.range-first.result.1 share.masters share.host c.range-first.ensures.ordered c.range-first.ensures.vertices in
-    let row : first + count ≤ nodes_of share = omega (arith, c.range-first.ensures.ordered, c.range-first.ensures.within) in
-    let marked = at_nodes (λ n. AreMarks n share.edges c.in_ok-table.table.items) c.requires.nodes c.in_ok-table.ensures in
-    let within = at_nodes (λ n. All (IsWithin n) share.edges) c.requires.nodes c.requires.within in
-    let numbered = numbered_is first count (nodes_of share) share.edges c.in_ok-table.table.items c.deref_mut.result.now c.numbered.new.table c.in_ok-mirrors.mirrors.items marked c.deref_mut.ensures.value c.in_ok-mirrors.ensures in
-    omega (arith, proxies_long share first count c.in_ok-table.table.items c.numbered.new.table c.in_ok-mirrors.mirrors.items within vertices row marked numbered, few_proxies share, c.len.ensures, c.in_ok-mirrors.mirrors.ok.0, c.requires)
-
-pub sorted-requires-2-clause-few_keys : goal.sorted-requires-2-clause-few_keys
-sorted-requires-2-clause-few_keys c =
-    let share = share_with c.args.host c.args.masters.now.hosts c.args.masters.now.masters c.args.edges.now in
-    let first = c.range-first.result.0 in
-    let count = c.range-first.result.1 - c.range-first.result.0 in
-    let vertices = vertices_are first c.range-first.result.1 share.masters share.host c.range-first.ensures.ordered c.range-first.ensures.vertices in
-    let row : first + count ≤ nodes_of share = omega (arith, c.range-first.ensures.ordered, c.range-first.ensures.within) in
-    let marked = at_nodes (λ n. AreMarks n share.edges c.in_ok-table.table.items) c.requires.nodes c.in_ok-table.ensures in
-    let within = at_nodes (λ n. All (IsWithin n) share.edges) c.requires.nodes c.requires.within in
-    let numbered = numbered_is first count (nodes_of share) share.edges c.in_ok-table.table.items c.deref_mut.result.now c.numbered.new.table c.in_ok-mirrors.mirrors.items marked c.deref_mut.ensures.value c.in_ok-mirrors.ensures in
-    omega (arith, proxies_long share first count c.in_ok-table.table.items c.numbered.new.table c.in_ok-mirrors.mirrors.items within vertices row marked numbered, few_proxies share, c.len.ensures, c.in_ok-mirrors.mirrors.ok.0, c.requires)
-
-pub sorted-requires-clause-keyed : goal.sorted-requires-clause-keyed
-sorted-requires-clause-keyed c =
+pub out_arcs-requires-clause-keyed : goal.out_arcs-requires-clause-keyed
+out_arcs-requires-clause-keyed c =
     let share = share_with c.args.host c.args.masters.now.hosts c.args.masters.now.masters c.args.edges.now in
     let first = c.range-first.result.0 in
     let count = c.range-first.result.1 - c.range-first.result.0 in
@@ -87,8 +61,22 @@ sorted-requires-clause-keyed c =
     let table_is : c.deref.result.now ≡ c.numbered.new.table = c.deref.ensures.value ∙ take_at c.numbered.new.table _ c.in_ok-table.table.len (omega (arith, numbered.long, c.in_ok-table.table.ok.0)) in
     keyed_at Out share.edges (count + length c.in_ok-mirrors.mirrors.items) (count + c.len.result) c.numbered.new.table c.deref.result.now (omega (arith, c.len.ensures, c.in_ok-mirrors.mirrors.ok.0)) table_is (keyed share first count c.in_ok-table.table.items c.numbered.new.table c.in_ok-mirrors.mirrors.items within vertices row marked numbered Out)
 
-pub sorted-requires-2-clause-keyed : goal.sorted-requires-2-clause-keyed
-sorted-requires-2-clause-keyed c =
+pub out_arcs-requires-clause-together : goal.out_arcs-requires-clause-together
+out_arcs-requires-clause-together c =
+    let share = share_with c.args.host c.args.masters.now.hosts c.args.masters.now.masters c.args.edges.now in
+    let first = c.range-first.result.0 in
+    let count = c.range-first.result.1 - c.range-first.result.0 in
+    let vertices = vertices_are first c.range-first.result.1 share.masters share.host c.range-first.ensures.ordered c.range-first.ensures.vertices in
+    let row : first + count ≤ nodes_of share = omega (arith, c.range-first.ensures.ordered, c.range-first.ensures.within) in
+    let marked = at_nodes (λ n. AreMarks n share.edges c.in_ok-table.table.items) c.requires.nodes c.in_ok-table.ensures in
+    let within = at_nodes (λ n. All (IsWithin n) share.edges) c.requires.nodes c.requires.within in
+    let numbered = numbered_is first count (nodes_of share) share.edges c.in_ok-table.table.items c.deref_mut.result.now c.numbered.new.table c.in_ok-mirrors.mirrors.items marked c.deref_mut.ensures.value c.in_ok-mirrors.ensures in
+    let table_is : c.deref.result.now ≡ c.numbered.new.table = c.deref.ensures.value ∙ take_at c.numbered.new.table _ c.in_ok-table.table.len (omega (arith, numbered.long, c.in_ok-table.table.ok.0)) in
+    let P : List ℕ → Type 0 = λ xs. AreTogether (key_of Out xs) share.edges in
+    subst P (sym table_is) (together share first count c.in_ok-table.table.items c.numbered.new.table c.in_ok-mirrors.mirrors.items within vertices row marked numbered c.requires.by_source)
+
+pub in_arcs-requires-clause-keyed : goal.in_arcs-requires-clause-keyed
+in_arcs-requires-clause-keyed c =
     let share = share_with c.args.host c.args.masters.now.hosts c.args.masters.now.masters c.args.edges.now in
     let first = c.range-first.result.0 in
     let count = c.range-first.result.1 - c.range-first.result.0 in
@@ -144,7 +132,7 @@ invariant_of-result c =
     kept_fields share first count c.in_ok-table.table.items c.numbered.new.table c.in_ok-mirrors.mirrors.items within vertices row marked numbered is_share graph refl
     (ap (λ (a : Assignment). a.hosts) c.in_ok-masters.ensures.same) (ap (λ (a : Assignment). a.masters) c.in_ok-masters.ensures.same) c.requires.nodes refl refl refl
     (sorted_at Out share.edges (count + c.len.result) (count + length c.in_ok-mirrors.mirrors.items) c.deref.result.now c.numbered.new.table c.in_ok-out.out keys_are out_table c.in_ok-out.ensures.sorted)
-    (sorted_at Back share.edges (count + c.len.result) (count + length c.in_ok-mirrors.mirrors.items) c.deref-2.result.now c.numbered.new.table c.in_ok-back.back keys_are back_table c.in_ok-back.ensures.sorted)
+    (sorted_at Back share.edges (count + c.len.result) (count + length c.in_ok-mirrors.mirrors.items) c.deref-2.result.now c.numbered.new.table c.in_ok-back.back keys_are back_table c.in_ok-back.ensures)
 
 pub returns : goal.returns
 returns c =
@@ -184,4 +172,4 @@ returns c =
     stands share first count c.in_ok-table.table.items c.numbered.new.table c.in_ok-mirrors.mirrors.items within vertices row marked numbered is_share graph refl
     (ap (λ (a : Assignment). a.hosts) c.in_ok-masters.ensures.same) (ap (λ (a : Assignment). a.masters) c.in_ok-masters.ensures.same) c.requires.nodes refl refl refl
     (sorted_at Out share.edges (count + c.len.result) (count + length c.in_ok-mirrors.mirrors.items) c.deref.result.now c.numbered.new.table c.in_ok-out.out keys_are out_table c.in_ok-out.ensures.sorted)
-    (sorted_at Back share.edges (count + c.len.result) (count + length c.in_ok-mirrors.mirrors.items) c.deref-2.result.now c.numbered.new.table c.in_ok-back.back keys_are back_table c.in_ok-back.ensures.sorted)
+    (sorted_at Back share.edges (count + c.len.result) (count + length c.in_ok-mirrors.mirrors.items) c.deref-2.result.now c.numbered.new.table c.in_ok-back.back keys_are back_table c.in_ok-back.ensures)

@@ -31,6 +31,13 @@ new-requires-clause-starts c =
     let is = starts_of-parts graph c.nodes.result c.edges.result.now c.in_ok-starts.starts.items c.nodes.ensures.nodes c.edges.ensures.edges c.in_ok-starts.ensures in
     subst IsStarts (sym (c.deref.ensures.value ∙ is)) (IsStarts-starts_of graph c.nodes.ensures.facts)
 
+pub table-requires : goal.table-requires
+table-requires c =
+    let graph = c.args.list.now in
+    let is = starts_of-parts graph c.nodes.result c.edges.result.now c.in_ok-starts.starts.items c.nodes.ensures.nodes c.edges.ensures.edges c.in_ok-starts.ensures in
+    let plan = plan_of-parts c.args.rules c.args.hosts graph c.in_ok-masters.masters c.in_ok-starts.starts.items c.deref.result.now (c.deref.ensures.value ∙ is) is c.in_ok-masters.ensures in
+    c.nodes-2.ensures.nodes ∙ sym (ap (λ (p : Plan). length p.masters) plan ∙ length-masters c.args.rules c.args.hosts graph)
+
 pub invariant_of-result : goal.invariant_of-result
 invariant_of-result c =
     let graph = c.args.list.now in
@@ -38,6 +45,7 @@ invariant_of-result c =
     let plan = plan_of-parts c.args.rules c.args.hosts graph c.in_ok-masters.masters c.in_ok-starts.starts.items c.deref.result.now (c.deref.ensures.value ∙ is) is c.in_ok-masters.ensures in (
       subst IsStarts (sym is) (IsStarts-starts_of graph c.nodes.ensures.facts),
       ap (λ (xs : List ℕ). length xs) is ∙ length-starts_of graph ∙ ap (λ n. n + 1) (sym (ap (λ (p : Plan). length p.masters) plan ∙ length-masters c.args.rules c.args.hosts graph)),
+      c.in_ok-table.ensures,
     )
 
 pub returns-clause-vertices : goal.returns-clause-vertices

@@ -1,6 +1,6 @@
 use Rattle.std.proofs.Common.{◌≡◌, [], replicate}
 use Rattle.partition_build.specs.Rooms.{contents}
-use Rattle.partition_build.proofs.handing.rooms.Given as goal
+use Rattle.partition_build.proofs.handing.empty_rooms.Given as goal
 
 -- the rooms so far are empty
 abbrev pub invariant-loop-count : goal.invariant-loop-count
