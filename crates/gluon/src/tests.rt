@@ -1,4 +1,4 @@
-//! Shortest paths and components by the top call. The expected texts were worked out from the definitions.
+//! Shortest paths, components and trials by the top call. The expected texts were worked out from the definitions.
 use gluon_top::gluon_main;
 use io_edge::{MemorySink, MixedPicks, PlainSource, Source};
 use std::alloc::{AllocError, Global};
@@ -117,5 +117,55 @@ fn a_damaged_file_has_its_line(rt: HostRuntime) -> Result<(), Fail> {
         let mut source = PlainSource::new(file(alloc, longs, words, 100)?);
         expect(&rt, alloc, &["cc"], &mut source, 3, line)?;
     }
+    Ok(())
+}
+
+/// What the four programs find on the graph of 600 nodes that number 1 makes.
+const TRIAL: &str = "nodes 600\n\
+                     edges 2294\n\
+                     bfs reached 600 sum 2308 greatest 7\n\
+                     sssp reached 600 sum 76234 greatest 217\n\
+                     cc labels 1\n\
+                     core 8 members 0\n";
+
+#[test]
+fn a_trial_is_the_same_over_any_hosts(rt: HostRuntime) -> Result<(), Fail> {
+    let alloc = rt.alloc();
+    let all: [&[&str]; 6] = [
+        &["selfrun", "--size", "600", "--order", "7"],
+        &["selfrun", "--size=600", "--hosts=1"],
+        &["selfrun", "--size=600", "--masters=nodes"],
+        &["selfrun", "--size=600", "--hosts=7", "--owner=dest"],
+        &[
+            "selfrun",
+            "--size=600",
+            "--hosts=3",
+            "--owner=hybrid",
+            "--threshold=8",
+        ],
+        &["selfrun", "--size=600", "--hosts=16", "--owner=cartesian"],
+    ];
+    for words in all {
+        let mut source = PlainSource::new(Vec::new(alloc));
+        expect(&rt, alloc, words, &mut source, 0, TRIAL)?;
+    }
+    Ok(())
+}
+
+#[test]
+fn a_trial_of_20000_nodes_has_its_lines(rt: HostRuntime) -> Result<(), Fail> {
+    expect(
+        &rt,
+        rt.alloc(),
+        &["selfrun", "--size", "20000", "--order", "7"],
+        &mut PlainSource::new(Vec::new(rt.alloc())),
+        0,
+        "nodes 20000\n\
+         edges 76250\n\
+         bfs reached 20000 sum 125217 greatest 10\n\
+         sssp reached 20000 sum 5320967 greatest 419\n\
+         cc labels 1\n\
+         core 8 members 0\n",
+    )?;
     Ok(())
 }

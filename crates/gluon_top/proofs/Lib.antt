@@ -1,9 +1,6 @@
-pub mod AnswerLines
 pub mod Loading
-pub mod Sizes
-pub mod Divisions
 pub mod Running
-pub mod WalksEnd
+pub mod Rounds
+pub mod Asking
 pub mod Outcomes
-pub mod HostRanges
-pub mod OwnerLines
+pub mod Ranges

@@ -21,21 +21,25 @@ use Rattle.program_runs.specs.Programs.{root_of}
 use Rattle.graph_model.specs.declared.edge.Way.{Way}
 use Rattle.graph_division.specs.Shares.{Share}
 use Rattle.partition_build.specs.Meant.{shared}
+use Rattle.partition_build.specs.Meant as meant
 use Rattle.partition_text.specs.Text.{partition_text}
 use Rattle.graph_maker.specs.MadeGraph.{made_graph}
 use Rattle.gr_writer.specs.File.{file_of}
-use Rattle.gluon_top.specs.declared.fault.Fault.{Fault}
-use Rattle.gluon_top.specs.declared.fault.Fault.TheVariants.{Words, Root, Input, Memory}
+use Rattle.job_text.specs.declared.fault.Fault.{Fault}
+use Rattle.job_text.specs.declared.fault.Fault.TheVariants.{Words, Root, Input, Memory}
 use Rattle.gluon_top.specs.declared.task.Task.TheVariants as task
-use Rattle.gluon_top.specs.Fault.{Cause, Meant, FailedRead, NoMemory, cause_of, cause_of_input}
+use Rattle.job_text.specs.Fault.{Cause, Meant, FailedRead, NoMemory, cause_of, cause_of_input}
 use Rattle.gluon_top.specs.Tasks.{task_of, reads_input}
 use Rattle.gluon_top.specs.Answers.{text_of}
 use Rattle.gluon_top.specs.declared.answers.Answers.{Answers}
+use Rattle.gluon_top.specs.declared.answers.Answers.TheVariants.{Tried}
+use Rattle.trial_runs.specs.declared.trial.Trial.{Trial}
+use Rattle.trial_runs.specs.Trials.{IsTrial}
 use Rattle.gluon_top.specs.declared.prepared.Prepared.TheVariants.{Run, Told}
-use Rattle.gluon_top.specs.Meaning.{ran, generated, owned, divided, answer_of, of_input, demand_node, graph_of, meaning_of, OfBytes, OfInput}
+use Rattle.gluon_top.specs.Meaning.{ran, generated, owned, divided, tried, answer_of, of_input, demand_node, graph_of, meaning_of, OfBytes, OfInput}
 use Rattle.gluon_top.specs.Outcome.{IfMeant, Stops, Finds, LeftAfter}
-use Rattle.gluon_top.specs.Owners.{owners_text}
-use Rattle.gluon_top.specs.Loaded.{Loads, FoundShares}
+use Rattle.job_text.specs.Owners.{owners_text}
+use Rattle.gluon_top.specs.Loaded.{FoundShares}
 
 -- what follows from a fault that bytes have, of a fault of the call
 input_stops : (cause : causes.Cause) (P Q : Type 0) → (P → Q) → causes.IfBytes cause P → IfMeant (cause_of_input cause) Q
@@ -57,7 +61,7 @@ IfMeant-map NoMemory P Q follows p = tt
 -- the head is refused
 pub head_stops : (root : Option ℕ) (left after : Option (List ℕ)) (fault : GrFault) →
     IfSome left (λ bytes. Means {X = Head} {Y = Head} (λ head. head) (Err fault) after (head_at bytes)) →
-    IfSome left (λ bytes. Loads (Err (Input fault)) after (graph_of root bytes))
+    IfSome left (λ bytes. Stops (Input fault) (graph_of root bytes))
 unfolding graph_of
 head_stops root left after fault means = IfSome_then left means (λ bytes refuses.
     stops fault (head_at bytes) (graph_of root bytes) (λ is. rw is refl) refuses)
@@ -65,7 +69,7 @@ head_stops root left after fault means = IfSome_then left means (λ bytes refuse
 -- the root is no node
 pub root_stops : (root : Option ℕ) (left after : Option (List ℕ)) (head : Head) (fault : Fault) → demand_node root head.nodes ≡ Err fault →
     IfSome left (λ bytes. Means {X = Head} {Y = Head} (λ head. head) (Ok head) after (head_at bytes)) →
-    IfSome left (λ bytes. Loads (Err fault) after (graph_of root bytes))
+    IfSome left (λ bytes. Stops fault (graph_of root bytes))
 unfolding graph_of
 root_stops root left after head fault refused means = IfSome_then left means (λ bytes found. outside root after head fault refused bytes found)
   where
@@ -83,22 +87,28 @@ root_stops root left after head fault refused means = IfSome_then left means (λ
 -- what follows the head is refused
 pub rest_stops : (root : Option ℕ) (left between after : Option (List ℕ)) (head : Head) (fault : GrFault) → demand_node root head.nodes ≡ Ok tt →
     IfSome left (λ bytes. Means {X = Head} {Y = Head} (λ head. head) (Ok head) between (head_at bytes)) →
-    IfSome between (λ bytes. Means {X = Graph} {Y = Graph} (λ graph. graph) (Err fault) after (rest_at head bytes)) →
-    IfSome left (λ bytes. Loads (Err (Input fault)) after (graph_of root bytes))
+    IfSome between (λ bytes. Refuses fault (rest_at head bytes)) →
+    IfSome left (λ bytes. Stops (Input fault) (graph_of root bytes))
 unfolding graph_of
 rest_stops root left None after head fault node means refuses = IfSome_then left means (λ bytes found. absurd found)
 rest_stops root left (Some rest) after head fault node means refuses = IfSome_then left means (λ bytes found.
     stops fault (rest_at head rest) (graph_of root bytes) (λ is. rw (found, node, is) refl) refuses)
 
--- the graph is loaded
-pub loads : (root : Option ℕ) (left between after : Option (List ℕ)) (head : Head) (graph : Graph) → demand_node root head.nodes ≡ Ok tt →
+-- the shares of the graph are found
+pub finds : (root : Option ℕ) (rules : Rules) (hosts : ℕ) (shares : List Share) (left between after : Option (List ℕ)) (head : Head) → demand_node root head.nodes ≡ Ok tt →
     IfSome left (λ bytes. Means {X = Head} {Y = Head} (λ head. head) (Ok head) between (head_at bytes)) →
-    IfSome between (λ bytes. Means {X = Graph} {Y = Graph} (λ graph. graph) (Ok graph) after (rest_at head bytes)) →
-    IfSome left (λ bytes. Loads (Ok graph) after (graph_of root bytes))
+    IfSome between (λ bytes. meant.FoundShares rules hosts shares after (rest_at head bytes)) →
+    IfSome left (λ bytes. FoundShares rules hosts shares after (graph_of root bytes))
 unfolding graph_of
-loads root left None after head graph node means loaded = IfSome_then left means (λ bytes found. absurd found)
-loads root left (Some rest) None head graph node means loaded = IfSome_then left means (λ bytes found. absurd loaded)
-loads root left (Some rest) (Some last) head graph node means loaded = IfSome_then left means (λ bytes found. rw (found, node, loaded) refl)
+finds root rules hosts shares left None after head node means found = IfSome_then left means (λ bytes is. absurd is)
+finds root rules hosts shares left (Some rest) after head node means found = IfSome_then left means (λ bytes is. record {
+  graph = found.graph;
+  after = found.after;
+  means = rw (is, node, found.means) refl;
+  leaves = found.leaves;
+  is_graph = found.is_graph;
+  shared_out = found.shared_out;
+})
 
 -- ---- what is left after a fault
 
@@ -265,6 +275,14 @@ pub proxies_stop : (words : List (List ℕ)) (rules : Rules) (hosts : ℕ) (way 
 unfolding meaning_of answer_of
 proxies_stop words rules hosts way left after fault asked stopped =
     rw asked (IfSome_then left stopped (λ bytes stop. IfMeant-map (cause_of fault) _ _ (λ is. rw is refl) stop))
+
+-- the four programs were tried
+pub trial_found : (words : List (List ℕ)) (size number hosts : ℕ) (rules : Rules) (order : ℕ) (left after : Option (List ℕ)) (trial : Trial) → task_of words ≡ Some (task.Selfrun size number hosts rules order) →
+    IsTrial (made_graph size number) trial →
+    OfInput words left (λ bytes. Finds (Ok (Told (Tried trial))) after (meaning_of words bytes))
+unfolding meaning_of answer_of
+trial_found words size number hosts rules order left after trial asked is =
+    rw asked (tried rules hosts (made_graph size number), refl, tt, (trial, is, refl))
 
 -- refused words, or want of memory
 pub refused_stops : (words : List (List ℕ)) (left after : Option (List ℕ)) (fault : Fault) → (fault ≡ Words) ⊎ (fault ≡ Memory) → (fault ≡ Words → task_of words ≡ None) →

@@ -9,28 +9,28 @@ use Rattle.io_edge.specs.Bytes.{Gains, GainsPrefix}
 use Rattle.io_edge.proofs.Moves.{IsQuiet-Rose, Gains-[]}
 use Rattle.gr_reader.specs.declared.fault.GrFault.TheVariants.{Ends, Version, EdgeSize, Nodes, Edges, IndexFalls, IndexEnds, Destination, Read}
 use Rattle.gr_reader.specs.declared.fault.GrFault.TheVariants as reading
-use Rattle.gluon_top.specs.declared.fault.Fault.{Fault}
-use Rattle.gluon_top.specs.declared.fault.Fault.TheVariants.{Words, Root, Input, Memory}
+use Rattle.job_text.specs.declared.fault.Fault.{Fault}
+use Rattle.job_text.specs.declared.fault.Fault.TheVariants.{Words, Root, Input, Memory}
 use Rattle.gluon_top.specs.declared.prepared.Prepared.{Prepared}
 use Rattle.gluon_top.specs.declared.task.Task.{Task}
 use Rattle.gluon_top.specs.declared.task.Task.TheVariants as task
-use Rattle.gluon_top.specs.Fault.{Cause, Meant, FailedRead, NoMemory, cause_of, fault_line, status_by, status_of}
-use Rattle.gluon_top.specs.Tasks.{task_of, reads_input}
+use Rattle.job_text.specs.Fault.{Cause, Meant, FailedRead, NoMemory, cause_of, fault_line, status_by, status_of}
+use Rattle.gluon_top.specs.Tasks.{task_of, reads_input, runs_program}
 use Rattle.graph_model.specs.Graph.{Graph, IsGraph}
 use Rattle.graph_model.specs.declared.edge.Way.{Way}
-use Rattle.graph_division.specs.Shares.{Share}
 use Rattle.command_words.specs.declared.job.RunWords.{RunWords}
 use Rattle.program_runs.specs.declared.program.Program.{Program}
 use Rattle.program_runs.specs.declared.last_run.LastRun.{LastRun}
-use Rattle.run_text.specs.Told.{Told}
 use Rattle.run_text.specs.Text as texts
 use Rattle.gluon_top.specs.declared.prepared.Prepared.TheVariants.{Run, Told as Found}
-use Rattle.gluon_top.specs.Runs.{status_at, TakesRounds, budget_in}
-use Rattle.gluon_top.proofs.WalksEnd.{walks_of_end}
-use Rattle.gluon_top.specs.Meaning.{Answer, ran, generated, owned, divided, answer_of, MeansAnswer, MeansText, IsText, OfBytes, OfInput, meaning_of}
+use Rattle.program_runs.specs.Programs.{TakesRounds, ProgramEnds}
+use Rattle.gluon_top.specs.Runs.{status_at, budget_in}
+use Rattle.gluon_top.proofs.Rounds.{goes_on_above, above_goes_on}
+use Rattle.gluon_top.proofs.Asking.{went_as}
+use Rattle.gluon_top.specs.Meaning.{Answer, ran, generated, owned, divided, tried, answer_of, MeansAnswer, MeansText, IsText, OfBytes, OfInput, meaning_of}
 use Rattle.gluon_top.specs.declared.answers.Answers.{Answers}
 use Rattle.gluon_top.specs.Answers.{text_of}
-use Rattle.gluon_top.specs.Prepared.{IsReady, IsMeant, IsFree, RunsAs, is_run, will_run}
+use Rattle.gluon_top.specs.Prepared.{IsReady, IsMeant, IsFree, AsksFirst, GoesAs, RunsAs, is_run, will_run}
 use Rattle.gluon_top.specs.Outcome.{IfMeant, Stops, Finds, CauseCounts, Counts, LeftAfter, LeavesAfterFault, WordsRefused, RefusesWords, WritesFront, ReadsFail, SpendsBudget, GoesOn, Writes, Completes}
 
 -- what holds of the bytes gives what follows from it
@@ -89,6 +89,7 @@ answer_status (ran program run graph after) status text means =
 answer_status (generated graph) status text means = inl means.0
 answer_status (owned rules hosts graph after) status text means = inl means.0
 answer_status (divided way shares after) status text means = inl means.0
+answer_status (tried rules hosts graph) status text means = inl means.0
 
 -- so it is no other
 answer_not : (answer : Answer) (status other : ℕ) (text : List ℕ) → MeansAnswer answer status text → other ≢ 0 → other ≢ 5 → status ≢ other
@@ -291,51 +292,49 @@ fault_not_zero (Input fault) zero = cause_not_zero (cause_of (Input fault)) zero
     cause_not_zero NoMemory zero = absurd (omega (arith, zero))
 fault_not_zero Memory zero = absurd (omega (arith, zero))
 
--- a text that goes on after its budget is of a run whose walks take more rounds
-goes_on_above : {IsCount : ℕ → Type 0} {asked : texts.Asked} {way : Way} {shares : List Share} {told : Told} {budget : ℕ} (rounds : Option ℕ) {text : List ℕ} → texts.IsRunText IsCount asked way shares told budget rounds text → status_at rounds ≡ 5 → (count : ℕ) → IsCount count → budget < count
-goes_on_above (Some rounds) text five count takes = absurd (omega (arith, five))
-goes_on_above None (texts.goes_on above) five count takes = above count takes
-
--- and where all numbers of rounds are above the budget, it goes on
-above_goes_on : {IsCount : ℕ → Type 0} {asked : texts.Asked} {way : Way} {shares : List Share} {told : Told} {budget : ℕ} (rounds : Option ℕ) {text : List ℕ} → texts.IsRunText IsCount asked way shares told budget rounds text → ((count : ℕ) → IsCount count → budget < count) → status_at rounds ≡ 5
-above_goes_on (Some rounds) (texts.ends _ takes within) above = let over = above rounds takes in absurd (omega arith)
-above_goes_on None text above = refl
-
 -- so it is of an answer
 goes_on : (answer : Answer) (status : ℕ) (text : List ℕ) → MeansAnswer answer status text → status ≡ 5 → GoesOn answer
-goes_on (ran program run graph after) status text means five = goes_on_above means.rounds means.tells.is_text (sym means.status_is ∙ five)
+goes_on (ran program run graph after) status text means five = goes_on_above program run graph means five
 goes_on (generated graph) status text means five = absurd (let zero = means.0 in omega (arith, five))
 goes_on (owned rules hosts graph after) status text means five = absurd (let zero = means.0 in omega (arith, five))
 goes_on (divided way shares after) status text means five = absurd (let zero = means.0 in omega (arith, five))
+goes_on (tried rules hosts graph) status text means five = absurd (let zero = means.0 in omega (arith, five))
 
 is_spent : (answer : Answer) (status : ℕ) (text : List ℕ) → MeansAnswer answer status text → GoesOn answer → status ≡ 5
-is_spent (ran program run graph after) status text means above = means.status_is ∙ above_goes_on means.rounds means.tells.is_text above
+is_spent (ran program run graph after) status text means above = above_goes_on program run graph means above
 is_spent (generated graph) status text means above = absurd above
 is_spent (owned rules hosts graph after) status text means above = absurd above
 is_spent (divided way shares after) status text means above = absurd above
+is_spent (tried rules hosts graph) status text means above = absurd above
 
--- walks end within one round more than there are nodes
-ends_within : (program : Program) (run : RunWords) (graph : Graph) → IsGraph graph → run.rounds ≡ None → ((count : ℕ) → TakesRounds program run graph count → budget_in program run graph < count) → ⊥
-ends_within program run graph is_graph free above =
-    let end = walks_of_end program graph run.way is_graph in
+-- every program ends
+abbrev pub EachEnds : Type 0
+EachEnds = (program : Program) (graph : Graph) (way : Way) → IsGraph graph → ProgramEnds program graph way
+
+-- so it ends within one round more than there are nodes
+ends_within : EachEnds → (program : Program) (run : RunWords) (graph : Graph) → IsGraph graph → run.rounds ≡ None → ((count : ℕ) → TakesRounds program graph run.way count → budget_in program run graph < count) → ⊥
+ends_within each program run graph is_graph free above =
+    let end = each program graph run.way is_graph in
     let over = above end.0 end.2 in
     let max_fits : max 1 graph.nodes ≤ graph.nodes + 1 = max-le (omega arith) (omega arith) in
     let budget : budget_in program run graph ≡ graph.nodes + 1 = ap (λ (rounds : Option ℕ). texts.budget_of rounds graph.nodes) free in
     omega (arith, end.1, over, budget, max_fits)
 
 -- so a run without a number of rounds does not go on
-never_goes_on : (prepared : Prepared) (answer : Answer) → IsFree prepared → IsReady prepared answer → GoesOn answer → ⊥
-never_goes_on (Run program run graphs) (ran other words graph after) free ready above =
-    ends_within other words graph ready.is_graph (ap (λ (w : RunWords). w.rounds) (sym ready.same_words) ∙ free) above
-never_goes_on (Run program run graphs) (generated graph) free ready above = above
-never_goes_on (Run program run graphs) (owned rules hosts graph after) free ready above = above
-never_goes_on (Run program run graphs) (divided way shares after) free ready above = above
-never_goes_on (Found answers) (ran other words graph after) free ready above = ready
-never_goes_on (Found answers) (generated graph) free ready above = above
-never_goes_on (Found answers) (owned rules hosts graph after) free ready above = above
-never_goes_on (Found answers) (divided way shares after) free ready above = above
+never_goes_on : EachEnds → (prepared : Prepared) (answer : Answer) → IsFree prepared → IsReady prepared answer → GoesOn answer → ⊥
+never_goes_on each (Run program run graphs) (ran other words graph after) free ready above =
+    ends_within each other words graph ready.is_graph (ap (λ (w : RunWords). w.rounds) (sym ready.same_words) ∙ free) above
+never_goes_on each (Run program run graphs) (generated graph) free ready above = above
+never_goes_on each (Run program run graphs) (owned rules hosts graph after) free ready above = above
+never_goes_on each (Run program run graphs) (divided way shares after) free ready above = above
+never_goes_on each (Run program run graphs) (tried rules hosts graph) free ready above = above
+never_goes_on each (Found answers) (ran other words graph after) free ready above = ready
+never_goes_on each (Found answers) (generated graph) free ready above = above
+never_goes_on each (Found answers) (owned rules hosts graph after) free ready above = above
+never_goes_on each (Found answers) (divided way shares after) free ready above = above
+never_goes_on each (Found answers) (tried rules hosts graph) free ready above = above
 
--- 5 comes only where walks take more rounds than a run may have
+-- 5 comes only where the graph calls for more rounds than a run may have
 pub spent_only : (meaning : Result Answer Fault) (left : Option (List ℕ)) (held held' : Option (List ℕ)) (fs fs' fk fk' status : ℕ) (outcome : Result Prepared Fault) →
     Finds outcome left meaning → Came outcome held held' fs fs' fk fk' status →
     status ≡ 5 → SpendsBudget meaning
@@ -362,12 +361,12 @@ spent meaning left held held' fs fs' fk fk' status (Err fault) stops came spends
     ]
 
 -- a run that is given no number of rounds comes to its end
-pub free : (held held' : Option (List ℕ)) (fs fs' fk fk' status : ℕ) (outcome : Result Prepared Fault) →
+pub free : EachEnds → (held held' : Option (List ℕ)) (fs fs' fk fk' status : ℕ) (outcome : Result Prepared Fault) →
     IfOk outcome IsFree → Came outcome held held' fs fs' fk fk' status → status ≢ 5
-free held held' fs fs' fk fk' status (Ok prepared) given came five =
+free each held held' fs fs' fk fk' status (Ok prepared) given came five =
     let e = (came.written (Ok came.answered.0) came.answered.1).ends (λ four. absurd (omega (arith, four, five))) (λ six. absurd (omega (arith, six, five))) in
-    never_goes_on prepared came.answered.0 given came.answered.1 (goes_on came.answered.0 status e.text e.means five)
-free held held' fs fs' fk fk' status (Err fault) given came five =
+    never_goes_on each prepared came.answered.0 given came.answered.1 (goes_on came.answered.0 status e.text e.means five)
+free each held held' fs fs' fk fk' status (Err fault) given came five =
     let e = (came.written (Err fault) refl).ends (λ four. absurd (omega (arith, four, five))) (λ six. absurd (omega (arith, six, five))) in
     absurd (fault_not_five fault (sym e.means.0 ∙ five))
 
@@ -475,6 +474,7 @@ no_input_fault words (Some (task.Run program run)) is none faulty = cc
 no_input_fault words (Some (task.Make size number)) is none faulty = absurd (rw is at faulty)
 no_input_fault words (Some (task.Owners hosts rules)) is none faulty = cc
 no_input_fault words (Some (task.Proxies hosts rules way)) is none faulty = cc
+no_input_fault words (Some (task.Selfrun size number hosts rules order)) is none faulty = absurd (rw is at faulty)
 
 -- the same of the input, as far as words ask for it and it is told
 pub taken_of_input : (words : List (List ℕ)) (left left' : Option (List ℕ)) (held held' : Option (List ℕ)) (fs fs' fk fk' status : ℕ) (outcome : Result Prepared Fault) →
@@ -498,6 +498,7 @@ means_done (ran program run graph after) text is = absurd is
 means_done (generated graph) text is = (refl, is)
 means_done (owned rules hosts graph after) text is = (refl, is)
 means_done (divided way shares after) text is = (refl, is)
+means_done (tried rules hosts graph) text is = (refl, is)
 
 -- its text was written, or a front of it where a write failed
 pub told_written : {T E : Type 0} (r : Result T E) (answers : Answers) (answer : Answer) {held held' : Option (List ℕ)} {fk fk' status : ℕ} → IsText answer (text_of answers)
@@ -522,6 +523,7 @@ not_run (Ok (ran program run graph after)) status last old new not0 not5 = recor
 not_run (Ok (generated graph)) status last old new not0 not5 = tt
 not_run (Ok (owned rules hosts graph after)) status last old new not0 not5 = tt
 not_run (Ok (divided way shares after)) status last old new not0 not5 = tt
+not_run (Ok (tried rules hosts graph)) status last old new not0 not5 = λ zero. absurd (not0 zero)
 not_run (Err fault) status last old new not0 not5 = tt
 
 -- a fault does not end with 0 or 5
@@ -532,13 +534,15 @@ fault_ends held held' fs fs' fk fk' status fault came =
       λ five. fault_not_five fault (let e = w.ends (λ four. absurd (omega (arith, four, five))) (λ six. absurd (omega (arith, six, five))) in sym e.means.0 ∙ five),
     )
 
--- a run that is meant goes by hosts
-pub runs_as : (meaning : Result Answer Fault) (left : Option (List ℕ)) (held held' : Option (List ℕ)) (fs fs' fk fk' status : ℕ) (outcome : Result Prepared Fault) (last : Option LastRun) (old new : Option ℕ) →
-    Finds outcome left meaning → Came outcome held held' fs fs' fk fk' status →
-    ((meant : Result Answer Fault) → IsMeant outcome meant → RunsAs meant status last old new) → RunsAs meaning status last old new
-runs_as meaning left held held' fs fs' fk fk' status (Ok prepared) last old new (answer, is, leaves, ready) came hosts = rw is (hosts (Ok answer) ready)
-runs_as meaning left held held' fs fs' fk fk' status (Err fault) last old new stops came hosts =
-    let other = fault_ends held held' fs fs' fk fk' status fault came in not_run meaning status last old new other.0 other.1
+-- a run that is meant goes by hosts, and so does a trial
+pub runs_as : (words : List (List ℕ)) (bytes : List ℕ) (left : Option (List ℕ)) (held held' : Option (List ℕ)) (fs fs' fk fk' status : ℕ) (outcome : Result Prepared Fault) (last : Option LastRun) (old mid new : Option ℕ) →
+    Finds outcome left (meaning_of words bytes) → Came outcome held held' fs fs' fk fk' status →
+    AsksFirst (task_of words) outcome old mid → IfOk outcome (λ prepared. is_run prepared ≡ runs_program (task_of words)) → (will_run outcome ≡ false → new ≡ mid) →
+    ((meant : Result Answer Fault) → IsMeant outcome meant → GoesAs meant status last mid new) → RunsAs (meaning_of words bytes) status last old new
+runs_as words bytes left held held' fs fs' fk fk' status (Ok prepared) last old mid new (answer, is, leaves, ready) came first kind still hosts =
+    rw is (went_as words bytes (task_of words) refl prepared answer status last old mid new is first kind still (hosts (Ok answer) ready))
+runs_as words bytes left held held' fs fs' fk fk' status (Err fault) last old mid new stops came first kind still hosts =
+    let other = fault_ends held held' fs fs' fk fk' status fault came in not_run (meaning_of words bytes) status last old new other.0 other.1
 
 -- whether a cluster is handed back
 pub last_comes : (held held' : Option (List ℕ)) (fs fs' fk fk' status : ℕ) (outcome : Result Prepared Fault) (last : Option LastRun) (runs : Bool) →

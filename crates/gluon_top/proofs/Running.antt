@@ -23,18 +23,16 @@ use Rattle.run_engine.specs.declared.fault.RunFault.TheVariants.{Spent}
 use Rattle.run_engine.specs.Outcome.{rounds_at, IfRan}
 use Rattle.program_runs.specs.declared.program.Program.{Program}
 use Rattle.program_runs.specs.declared.last_run.LastRun.{LastRun}
-use Rattle.program_runs.specs.Programs.{labels_of}
 use Rattle.program_runs.specs.LastRuns.{round_of, IsLastRun}
-use Rattle.program_runs.specs.ByWalks.{WritesWalks, BreaksWalks, EndsByWalks}
+use Rattle.program_runs.specs.Ends.{EndsRun}
+use Rattle.program_runs.specs.Ends as ends
 use Rattle.gluon_top.specs.declared.runs.Stop.{Stop}
 use Rattle.gluon_top.specs.declared.runs.Stop.TheVariants.{Write, Memory}
-use Rattle.gluon_top.specs.Runs.{IsLast, AsksFor, asked_in, budget_in, shares_in, status_at, spent_line, end_line}
+use Rattle.job_text.specs.Fault.{spent_line}
+use Rattle.gluon_top.specs.Runs.{IsLast, AsksFor, asked_in, budget_in, shares_in, status_at, end_line}
 use Rattle.gluon_top.specs.Running.{WritesText, BreaksText, WritesRun, PassesRun, status_by}
-use Rattle.gluon_top.proofs.Divisions.{is_division_of}
-
--- a run that ends has taken its rounds
-ends_count : {IsCount : ℕ → Type 0} {asked : texts.Asked} {shares : List Share} {told : _} {way : _} {budget rounds : ℕ} {text : List ℕ} → texts.IsRunText IsCount asked way shares told budget (Some rounds) text → IsCount rounds
-ends_count (texts.ends rounds takes within) = takes
+use Rattle.share_plan.proofs.Divisions.{is_division_of}
+use Rattle.gluon_top.proofs.Rounds.{ends_takes}
 
 -- a run that ends or goes on does not run out of memory
 status_not_four : (rounds : Option ℕ) → status_at rounds ≢ 4
@@ -44,22 +42,22 @@ status_not_four None four = absurd (omega (arith, four))
 module _ (program : Program) (run : RunWords) (graph : Graph) where
   -- what was done by hosts that share the graph out by its rules
   pub divided_as : (result : Result LastRun RunFault) (old new : SinkState) (shares : List Share) → IsHostCount run.hosts → IsGraph graph → shares ≡ shares_in program run graph
-      → ((any : Graph) → IsGraph any → IsDivisionOf any run.way (division_of run.way shares) → EndsByWalks (labels_of program) any (asked_in run) run.way shares (texts.budget_of run.rounds any.nodes) round_of result old new)
-      → EndsByWalks (labels_of program) graph (asked_in run) run.way (shares_in program run graph) (budget_in program run graph) round_of result old new
+      → ((any : Graph) → IsGraph any → IsDivisionOf any run.way (division_of run.way shares) → EndsRun program any (asked_in run) run.way shares (texts.budget_of run.rounds any.nodes) round_of result old new)
+      → EndsRun program graph (asked_in run) run.way (shares_in program run graph) (budget_in program run graph) round_of result old new
   divided_as result old new shares counted fact shared walks =
-      subst (λ (held : List Share). EndsByWalks (labels_of program) graph (asked_in run) run.way held (budget_in program run graph) round_of result old new) shared
+      subst (λ (held : List Share). EndsRun program graph (asked_in run) run.way held (budget_in program run graph) round_of result old new) shared
       (walks graph fact (subst (λ (held : List Share). IsDivisionOf graph run.way (division_of run.way held)) (sym shared) (is_division_of run.way run.rules run.hosts graph counted fact)))
 
   -- the same of a fault that is known
   pub divided_fault : (fault known : RunFault) (old new : SinkState) (shares : List Share) → fault ≡ known → IsHostCount run.hosts → IsGraph graph → shares ≡ shares_in program run graph
-      → ((any : Graph) → IsGraph any → IsDivisionOf any run.way (division_of run.way shares) → EndsByWalks (labels_of program) any (asked_in run) run.way shares (texts.budget_of run.rounds any.nodes) round_of (Err fault) old new)
-      → EndsByWalks (labels_of program) graph (asked_in run) run.way (shares_in program run graph) (budget_in program run graph) round_of (Err known) old new
+      → ((any : Graph) → IsGraph any → IsDivisionOf any run.way (division_of run.way shares) → EndsRun program any (asked_in run) run.way shares (texts.budget_of run.rounds any.nodes) round_of (Err fault) old new)
+      → EndsRun program graph (asked_in run) run.way (shares_in program run graph) (budget_in program run graph) round_of (Err known) old new
   divided_fault fault known old new shares is counted fact shared walks =
-      subst (λ (fault : RunFault). EndsByWalks (labels_of program) graph (asked_in run) run.way (shares_in program run graph) (budget_in program run graph) round_of (Err fault) old new) is
+      subst (λ (fault : RunFault). EndsRun program graph (asked_in run) run.way (shares_in program run graph) (budget_in program run graph) round_of (Err fault) old new) is
       (divided_as (Err fault) old new shares counted fact shared walks)
 
   -- the text of a run that ended was written
-  pub ended_text : {old new : SinkState} (rounds : ℕ) → WritesWalks (labels_of program) graph (asked_in run) run.way (shares_in program run graph) (budget_in program run graph) (Some rounds) old new → WritesText program run graph 0 old new
+  pub ended_text : {old new : SinkState} (rounds : ℕ) → ends.WritesRun program graph (asked_in run) run.way (shares_in program run graph) (budget_in program run graph) (Some rounds) old new → WritesText program run graph 0 old new
   ended_text rounds wrote = record {
     text = wrote.text;
     is_text = record { rounds = Some rounds; told = wrote.text; tells = wrote.tells; status_is = refl; text_is = sym (append-nil wrote.text) };
@@ -67,11 +65,11 @@ module _ (program : Program) (run : RunWords) (graph : Graph) where
   }
 
   -- its cluster is that of the last round, and it asked for the picks of all rounds
-  pub ended_last : {old new : SinkState} (asked asked' : Option ℕ) (shares : List Share) (last : LastRun) → WritesWalks (labels_of program) graph (asked_in run) run.way (shares_in program run graph) (budget_in program run graph) (Some (round_of last)) old new
+  pub ended_last : {old new : SinkState} (asked asked' : Option ℕ) (shares : List Share) (last : LastRun) → ends.WritesRun program graph (asked_in run) run.way (shares_in program run graph) (budget_in program run graph) (Some (round_of last)) old new
       → shares ≡ shares_in program run graph → IsLastRun program run.way shares last → asked' ≡ option_map (asked_after (asks (division_of run.way shares) (round_of last))) asked → IsLast program run graph last asked asked'
   ended_last asked asked' shares last wrote shared is_last picks = record {
     is_last = subst (λ (held : List Share). IsLastRun program run.way held last) shared is_last;
-    takes = ends_count wrote.tells.is_text;
+    takes = ends_takes program run graph (round_of last) wrote.text wrote.tells;
     asked = subst (λ (held : List Share). asked' ≡ option_map (asked_after (asks (division_of run.way held) (round_of last))) asked) shared picks;
   }
 
@@ -84,7 +82,7 @@ module _ (program : Program) (run : RunWords) (graph : Graph) where
       (subst (λ (held : List Share). asked' ≡ option_map (asked_after (asks (division_of run.way held) spent)) asked) shared known)
 
   -- the packets of a run that goes on were written, and then the line of its fault
-  pub spent_text : {old new last : SinkState} {spent : ℕ} → spent ≡ budget_in program run graph → WritesWalks (labels_of program) graph (asked_in run) run.way (shares_in program run graph) (budget_in program run graph) None old new → WroteAll new last (spent_line spent) → WritesText program run graph 5 old last
+  pub spent_text : {old new last : SinkState} {spent : ℕ} → spent ≡ budget_in program run graph → ends.WritesRun program graph (asked_in run) run.way (shares_in program run graph) (budget_in program run graph) None old new → WroteAll new last (spent_line spent) → WritesText program run graph 5 old last
   spent_text {old} {new} {last} all wrote line = record {
     text = wrote.text ++ spent_line (budget_in program run graph);
     is_text = record { rounds = None; told = wrote.text; tells = wrote.tells; status_is = refl; text_is = refl };
@@ -92,7 +90,7 @@ module _ (program : Program) (run : RunWords) (graph : Graph) where
   }
 
   -- the packets were written, and then a front of that line
-  pub spent_front : {old new last : SinkState} {spent : ℕ} → spent ≡ budget_in program run graph → WritesWalks (labels_of program) graph (asked_in run) run.way (shares_in program run graph) (budget_in program run graph) None old new → WroteFront new last (spent_line spent) → BreaksText program run graph old last
+  pub spent_front : {old new last : SinkState} {spent : ℕ} → spent ≡ budget_in program run graph → ends.WritesRun program graph (asked_in run) run.way (shares_in program run graph) (budget_in program run graph) None old new → WroteFront new last (spent_line spent) → BreaksText program run graph old last
   spent_front {old} {new} {last} all wrote line = record {
     status = 5;
     text = wrote.text ++ spent_line (budget_in program run graph);
@@ -101,7 +99,7 @@ module _ (program : Program) (run : RunWords) (graph : Graph) where
   }
 
   -- a front of the text of a run was written
-  pub broken_text : {old new : SinkState} → BreaksWalks (labels_of program) graph (asked_in run) run.way (shares_in program run graph) (budget_in program run graph) old new → BreaksText program run graph old new
+  pub broken_text : {old new : SinkState} → ends.BreaksRun program graph (asked_in run) run.way (shares_in program run graph) (budget_in program run graph) old new → BreaksText program run graph old new
   broken_text broke = record {
     status = status_at broke.rounds;
     text = broke.text ++ end_line (budget_in program run graph) broke.rounds;

@@ -1,7 +1,4 @@
 pub mod Tasks
-pub mod Fault
-pub mod Numbered
-pub mod Owners
 pub mod Divided
 pub mod Runs
 pub mod Answers
@@ -10,4 +7,3 @@ pub mod Prepared
 pub mod Outcome
 pub mod Running
 pub mod Loaded
-pub mod Lines

@@ -4,24 +4,14 @@ use Rattle.graph_model.specs.Graph.{Graph, IsGraph}
 use Rattle.graph_division.specs.Shares.{Share}
 use Rattle.share_plan.specs.Owners.{shares_of}
 use Rattle.edge_owner.specs.declared.rules.Rules.{Rules}
-use Rattle.gluon_top.specs.declared.fault.Fault.{Fault}
+use Rattle.job_text.specs.declared.fault.Fault.{Fault}
 use Rattle.gluon_top.specs.Outcome.{Stops}
 
--- The graph is the one that is meant, and what the source has left follows it; or the fault is what is meant.
-abbrev pub Loads : Result Graph Fault → Option (List ℕ) → Result (Graph × List ℕ) Fault → Type 0
-Loads (Ok graph) left meaning = IsSomeAnd left (λ rest. meaning ≡ Ok (graph, rest))
-Loads (Err fault) left meaning = Stops fault meaning
-
--- The same of what a call returned with its graph, or with the shares of the graph, seen by `view`.
+-- What a call returned with its graph, or with the shares of the graph, seen by `view`, is what is meant, and what the
+-- source has left follows it; or the fault is what is meant.
 abbrev pub LoadsWith : {X Y : Type 0} → (X → Y) → Result X Fault → Option (List ℕ) → Result (Y × List ℕ) Fault → Type 0
 LoadsWith view (Ok x) left meaning = IsSomeAnd left (λ rest. meaning ≡ Ok (view x, rest))
 LoadsWith view (Err fault) left meaning = Stops fault meaning
-
--- shares are those of some graph by these rules
-pub record AreShared (rules : Rules) (hosts : ℕ) (shares : List Share) : Type 0 where
-  pub graph : Graph
-  pub is_graph : IsGraph graph
-  pub shared_out : shares ≡ shares_of rules hosts graph
 
 -- the graph that is meant, what the source has left behind it, and what each host holds of it
 pub record FoundShares (rules : Rules) (hosts : ℕ) (shares : List Share) (left : Option (List ℕ)) (meaning : Result (Graph × List ℕ) Fault) : Type 0 where

@@ -13,13 +13,16 @@ use Rattle.partition_build.specs.Meant.{shared}
 use Rattle.partition_text.specs.Text.{partition_text}
 use Rattle.program_runs.specs.declared.program.Program.{Program}
 use Rattle.program_runs.specs.Programs.{root_of}
-use Rattle.gluon_top.specs.declared.fault.Fault.{Fault}
-use Rattle.gluon_top.specs.declared.fault.Fault.TheVariants.{Words, Root, Input}
+use Rattle.job_text.specs.declared.fault.Fault.{Fault}
+use Rattle.job_text.specs.declared.fault.Fault.TheVariants.{Words, Root, Input}
 use Rattle.gluon_top.specs.declared.task.Task.{Task}
 use Rattle.gluon_top.specs.declared.task.Task.TheVariants as task
-use Rattle.gluon_top.specs.Fault.{fault_line, status_of}
+use Rattle.job_text.specs.Fault.{fault_line, status_of}
 use Rattle.gluon_top.specs.Tasks.{task_of, reads_input}
-use Rattle.gluon_top.specs.Owners.{owners_text}
+use Rattle.job_text.specs.Owners.{owners_text}
+use Rattle.job_text.specs.Trials.{trial_text}
+use Rattle.trial_runs.specs.declared.trial.Trial.{Trial}
+use Rattle.trial_runs.specs.Trials.{IsTrial}
 use Rattle.gluon_top.specs.Runs.{IsRunText}
 
 -- what a task comes to
@@ -32,6 +35,8 @@ pub data Answer : Type 0 where
   owned : (rules : Rules) (hosts : ℕ) (graph : Graph) (after : List ℕ) → Answer
   -- what hosts hold of the graph of the input, whose edges are followed in a way, behind whose file these bytes are left
   divided : (way : Way) (shares : List Share) (after : List ℕ) → Answer
+  -- what the four programs find on a made graph, which hosts share out by rules
+  tried : (rules : Rules) (hosts : ℕ) (graph : Graph) → Answer
 
 -- a fault of the file is a fault of the call
 abbrev pub of_input : {A : Type 0} → Result A GrFault → Result A Fault
@@ -74,6 +79,7 @@ answer_of (task.Owners hosts rules) bytes = do
 answer_of (task.Proxies hosts rules way) bytes = do
   file ← of_input (shared rules hosts (file_at bytes))
   Ok (divided way file.0 file.1)
+answer_of (task.Selfrun size number hosts rules order) bytes = Ok (tried rules hosts (made_graph size number))
 
 -- what the words and the bytes ask for, or the first fault
 unfoldable pub meaning_of : List (List ℕ) → List ℕ → Result Answer Fault
@@ -81,12 +87,14 @@ meaning_of words bytes = do
   task ← demand_task (task_of words)
   answer_of task bytes
 
--- the text of an answer that is no run: a file with weights of four bytes, masters and owners, or proxies and lists
+-- the text of an answer that is no run: a file with weights of four bytes, masters and owners, proxies and lists, or
+-- what the four programs find
 abbrev pub IsText : Answer → List ℕ → Type 0
 IsText (ran program run graph after) text = ⊥
 IsText (generated graph) text = text ≡ file_of 4 graph
 IsText (owned rules hosts graph after) text = text ≡ owners_text rules hosts graph
 IsText (divided way shares after) text = text ≡ partition_text way shares
+IsText (tried rules hosts graph) text = (trial : Trial) × IsTrial graph trial × (text ≡ trial_text trial)
 
 -- the status and the text of an answer: those of a run, and else 0 and its text
 abbrev pub MeansAnswer : Answer → ℕ → List ℕ → Type 0
@@ -94,6 +102,7 @@ MeansAnswer (ran program run graph after) status text = IsRunText program run gr
 MeansAnswer (generated graph) status text = (status ≡ 0) × IsText (generated graph) text
 MeansAnswer (owned rules hosts graph after) status text = (status ≡ 0) × IsText (owned rules hosts graph after) text
 MeansAnswer (divided way shares after) status text = (status ≡ 0) × IsText (divided way shares after) text
+MeansAnswer (tried rules hosts graph) status text = (status ≡ 0) × IsText (tried rules hosts graph) text
 
 -- the status and the text of an answer or of a fault
 abbrev pub MeansText : Result Answer Fault → ℕ → List ℕ → Type 0

@@ -5,11 +5,12 @@ use Rattle.io_edge.specs.Bytes.{Gains, GainsPrefix}
 use Rattle.gr_reader.specs.Reach.{TakesAtMost, file_reach}
 use Rattle.gr_reader.specs.declared.fault.GrFault.TheVariants as reading
 use Rattle.graph_model.specs.Graph.{Graph}
-use Rattle.gluon_top.specs.declared.fault.Fault.{Fault}
-use Rattle.gluon_top.specs.declared.fault.Fault.TheVariants.{Words, Root, Input, Memory}
-use Rattle.gluon_top.specs.Fault.{Cause, Meant, FailedRead, NoMemory, cause_of, fault_line, status_of}
-use Rattle.gluon_top.specs.Runs.{budget_in, TakesRounds}
-use Rattle.gluon_top.specs.Meaning.{Answer, ran, generated, owned, divided, MeansAnswer, MeansText, Meaning, OfInput}
+use Rattle.job_text.specs.declared.fault.Fault.{Fault}
+use Rattle.job_text.specs.declared.fault.Fault.TheVariants.{Words, Root, Input, Memory}
+use Rattle.job_text.specs.Fault.{Cause, Meant, FailedRead, NoMemory, cause_of, fault_line, status_of}
+use Rattle.program_runs.specs.Programs.{TakesRounds}
+use Rattle.gluon_top.specs.Runs.{budget_in}
+use Rattle.gluon_top.specs.Meaning.{Answer, ran, generated, owned, divided, tried, MeansAnswer, MeansText, Meaning, OfInput}
 use Rattle.gluon_top.specs.declared.prepared.Prepared.{Prepared}
 use Rattle.gluon_top.specs.Prepared.{IsReady}
 
@@ -29,6 +30,7 @@ Leaves (ran program run graph after) left = left ≡ Some after
 Leaves (generated graph) left = Unit {0}
 Leaves (owned rules hosts graph after) left = left ≡ Some after
 Leaves (divided way shares after) left = left ≡ Some after
+Leaves (tried rules hosts graph) left = Unit {0}
 
 -- What was prepared is what is meant, and what the source has left is what its file does not use; or the fault is what
 -- is meant, as far as no read failed and memory sufficed.
@@ -88,12 +90,13 @@ HasInputFault meaning = IsErrAnd meaning (λ fault. status_of fault ≡ 3)
 abbrev pub WordsRefused : {X : Type 0} → Result X Fault → Type 0
 WordsRefused outcome = (outcome ≡ Err Words) ⊎ (outcome ≡ Err Memory)
 
--- a run is meant whose budget does not suffice: all numbers of rounds that walks take are above it
+-- a run is meant whose budget does not suffice: all numbers of rounds that it takes are above it
 abbrev pub GoesOn : Answer → Type 0
-GoesOn (ran program run graph after) = (rounds : ℕ) → TakesRounds program run graph rounds → budget_in program run graph < rounds
+GoesOn (ran program run graph after) = (rounds : ℕ) → TakesRounds program graph run.way rounds → budget_in program run graph < rounds
 GoesOn (generated graph) = ⊥
 GoesOn (owned rules hosts graph after) = ⊥
 GoesOn (divided way shares after) = ⊥
+GoesOn (tried rules hosts graph) = ⊥
 
 abbrev pub SpendsBudget : Result Answer Fault → Type 0
 SpendsBudget meaning = IsOkAnd meaning GoesOn

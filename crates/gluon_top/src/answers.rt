@@ -2,6 +2,7 @@
 use crate::proxies::Divided;
 use graph_model::EdgeList;
 use share_plan::SharePlan;
+use trial_runs::Trial;
 
 /// What a task that is no run came to.
 #[derive(Drop)]
@@ -12,4 +13,6 @@ pub(crate) enum Answers {
     Owned(EdgeList, SharePlan),
     /// A graph that is divided among hosts.
     Divided(Divided),
+    /// What the four programs find on a made graph.
+    Tried(Trial),
 }

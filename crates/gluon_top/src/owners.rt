@@ -2,17 +2,17 @@
 ghost use Rattle.std.specs.Prelude.{◌≡◌, ◌≢◌, length, IfOk, IfErr, IfSome, Err};
 ghost use Rattle.cusp_rules.specs.Hosts.{IsHostCount};
 ghost use Rattle.gr_reader.specs.File.{file_at};
-ghost use Rattle.gluon_top.specs.Fault.{cause_of};
+ghost use Rattle.job_text.specs.Fault.{cause_of};
 ghost use Rattle.gluon_top.specs.Meaning.{of_input};
 ghost use Rattle.gluon_top.specs.Outcome.{Counts, IfMeant, LeftAfter};
-ghost use Rattle.gluon_top.specs.Owners.{owners_text, plan_text};
+ghost use Rattle.job_text.specs.Owners.{owners_text, plan_text};
 ghost use Rattle.gluon_top.specs.Loaded.{LoadsWith};
 
-use crate::fault::Fault;
 use edge_owner::Rules;
 use gr_reader::read_graph;
 use graph_model::EdgeList;
 use io_edge::Source;
+use job_text::Fault;
 use share_plan::SharePlan;
 use std::alloc::Global;
 

@@ -1,15 +1,14 @@
 //! What is done for a task before anything is written.
 ghost use Rattle.std.specs.Prelude.{◌≡◌, ◌≢◌, IfOk, IfErr, IfSome, None, Err, false};
 ghost use Rattle.command_words.specs.Items.{texts_of};
-ghost use Rattle.gluon_top.specs.Fault.{cause_of};
-ghost use Rattle.gluon_top.specs.Tasks.{task_of, reads_input, runs_program, HasNoBudget, BeginsAs};
+ghost use Rattle.job_text.specs.Fault.{cause_of};
+ghost use Rattle.gluon_top.specs.Tasks.{task_of, reads_input, runs_program, has_order, HasNoBudget, BeginsAs};
 ghost use Rattle.gluon_top.specs.Meaning.{Answer, meaning_of, OfInput};
 ghost use Rattle.gluon_top.specs.Outcome.{Finds, WordsRefused, Counts, IfMeant, LeftAfter};
-ghost use Rattle.gluon_top.specs.Prepared.{IsGood, IsReady, IsFree, is_run};
+ghost use Rattle.gluon_top.specs.Prepared.{IsGood, IsReady, IsFree, AsksFirst, is_run};
 ghost use Rattle.program_runs.specs.Programs.{root_of};
 
 use crate::answers::Answers;
-use crate::fault::Fault;
 use crate::owners::owners;
 use crate::proxies::proxies;
 use crate::shares::load_shares;
@@ -17,9 +16,11 @@ use crate::task::{Task, read_task};
 use command_words::RunWords;
 use graph_maker::make;
 use io_edge::{Picker, Source};
+use job_text::Fault;
 use program_runs::Program;
 use proxy_graph::LocalGraph;
 use std::alloc::Global;
+use trial_runs::run_trial;
 
 /// What was prepared for a task: all that can be a fault of words and bytes is known.
 #[derive(Drop)]
@@ -31,7 +32,8 @@ pub(crate) enum Prepared {
 }
 
 /// What the task that the words ask for needs, over the graph that the source gives where it reads one; or the
-/// first fault. For a run the picker begins from the order that the words ask for.
+/// first fault. For a run, and for a trial, the picker begins from the order that the words ask for; a trial is
+/// run here, and asks it for picks.
 pub(crate) fn prepare<S: Source, P: Picker>(
     alloc: Global,
     words: &[String],
@@ -51,8 +53,8 @@ pub(crate) fn prepare<S: Source, P: Picker>(
         LeftAfter bytes fault (S.left source.new)))) }
     ensures counts { Counts result (S.faults source.old) (S.faults source.new) }
     ensures begun { result ≢ Err Fault.Memory → BeginsAs (task_of (texts_of words.now)) (P.begun picker.old) (P.begun picker.new) }
-    ensures unbegun { runs_program (task_of (texts_of words.now)) ≡ false → P.begun picker.new ≡ P.begun picker.old }
-    ensures asked { P.asked picker.new ≡ P.asked picker.old }
+    ensures unbegun { has_order (task_of (texts_of words.now)) ≡ false → P.begun picker.new ≡ P.begun picker.old }
+    ensures asked { AsksFirst (task_of (texts_of words.now)) result (P.asked picker.old) (P.asked picker.new) }
 {
     match read_task(alloc, words)? {
         Task::Run { program, run } => {
@@ -72,6 +74,17 @@ pub(crate) fn prepare<S: Source, P: Picker>(
             let divided = proxies(alloc, hosts, rules, way, source)?;
             Ok(Prepared::Told(Answers::Divided(divided)))
         }
+        Task::Selfrun {
+            size,
+            number,
+            hosts,
+            rules,
+            order,
+        } => {
+            picker.start(order);
+            let trial = run_trial(alloc, size, number, rules, hosts, picker)?;
+            Ok(Prepared::Told(Answers::Tried(trial)))
+        }
     }
 }
 
@@ -81,6 +94,6 @@ fn root_of(program: Program) -> Option<u32>
 {
     match program {
         Program::Bfs { root } | Program::Sssp { root } => Some(root),
-        Program::Cc => None,
+        Program::Cc | Program::Kcore { .. } => None,
     }
 }

@@ -12,12 +12,12 @@ const LOOP_LONGS: [u64; 9] = [1, 0, 5, 5, 3, 4, 5, 5, 5];
 const LOOP_WORDS: [u32; 5] = [0, 1, 1, 2, 1];
 
 /// A file: its numbers of 8 bytes, and then those of 4.
-type Numbers = (&'static [u64], &'static [u32]);
+pub(crate) type Numbers = (&'static [u64], &'static [u32]);
 
 const DIAMOND: Numbers = (&DIAMOND_LONGS, &DIAMOND_WORDS);
 
 /// A cycle of four vertices.
-const CYCLE: Numbers = (&[1, 0, 4, 4, 1, 2, 3, 4], &[1, 2, 3, 0]);
+pub(crate) const CYCLE: Numbers = (&[1, 0, 4, 4, 1, 2, 3, 4], &[1, 2, 3, 0]);
 
 /// 0 to 1 of weight 10, 0 to 2 of weight 1, 2 to 1 of weight 2.
 const DETOUR: Numbers = (&[1, 4, 3, 3, 2, 2, 3], &[1, 2, 1, 0, 10, 1, 2]);
@@ -26,7 +26,7 @@ const DETOUR: Numbers = (&[1, 4, 3, 3, 2, 2, 3], &[1, 2, 1, 0, 10, 1, 2]);
 const FORK: Numbers = (&[1, 0, 4, 3, 1, 3, 3, 3], &[1, 2, 3]);
 
 /// What these words come to on these bytes.
-fn run<P: Picker>(
+pub(crate) fn run<P: Picker>(
     alloc: Global,
     words: &[&str],
     bytes: Vec<u8>,
@@ -40,7 +40,7 @@ fn run<P: Picker>(
 }
 
 /// These words on this file end with this status and this text.
-fn expect(
+pub(crate) fn expect(
     rt: &impl Abort,
     alloc: Global,
     words: &[&str],

@@ -9,12 +9,10 @@ ghost use Rattle.gluon_top.specs.Runs.{shares_in, GoesByHosts};
 ghost use Rattle.gluon_top.specs.declared.runs.Stop.TheVariants.{Write};
 ghost use Rattle.gluon_top.specs.Running.{WritesRun, PassesRun, RunsByHosts};
 
-use crate::line::Line;
-use crate::lines::write_line;
-use crate::status::{DONE, NO_MEMORY, ROUNDS_SPENT, WRITE_FAILED};
 use crate::top::Outcome;
 use command_words::RunWords;
 use io_edge::{PagedSink, Picker, Sink, SinkFault};
+use job_text::{DONE, NO_MEMORY, ROUNDS_SPENT, WRITE_FAILED, write_spent};
 use program_runs::{LastRun, Program, run_program};
 use proxy_graph::LocalGraph;
 use run_engine::{RunFault, RunJob};
@@ -123,7 +121,7 @@ fn write_run<K: Sink, P: Picker>(
     match run_program(alloc, program, job, graphs, picker, sink) {
         Ok(last) => Ok(Some(last)),
         Err(RunFault::Spent(budget)) => {
-            write_line(sink, Line::AroundNumber("fault: rounds ", budget, " spent"))?;
+            write_spent(sink, budget)?;
             Ok(None)
         }
         Err(RunFault::Write) => Err(Stop::Write),

@@ -1,18 +1,18 @@
 //! From bytes to what each host holds of their graph.
-ghost use Rattle.std.specs.Prelude.{◌≡◌, ◌≢◌, IfOk, IfErr, IfSome, Err};
+ghost use Rattle.std.specs.Prelude.{◌≡◌, ◌≢◌, ℕ, IfOk, IfErr, IfSome, Err};
 ghost use Rattle.cusp_rules.specs.Hosts.{IsHostCount};
 ghost use Rattle.graph_division.specs.Partition.{IsPartition};
-ghost use Rattle.gluon_top.specs.Fault.{cause_of};
+ghost use Rattle.job_text.specs.Fault.{cause_of};
 ghost use Rattle.gluon_top.specs.Meaning.{graph_of, demand_node};
 ghost use Rattle.gluon_top.specs.Outcome.{Counts, IfMeant, LeftAfter};
-ghost use Rattle.gluon_top.specs.Loaded.{AreShared, FindsShares, Loads};
+ghost use Rattle.gluon_top.specs.Loaded.{FindsShares};
+ghost use Rattle.partition_build.specs.Meant.{AreShared};
 
-use crate::fault::Fault;
 use edge_owner::Rules;
-use gr_reader::{GrReader, read_rest};
-use graph_model::EdgeList;
+use gr_reader::GrReader;
 use io_edge::Source;
-use partition_build::build_list;
+use job_text::Fault;
+use partition_build::build;
 use proxy_graph::LocalGraph;
 use std::alloc::Global;
 
@@ -28,22 +28,8 @@ pub(crate) fn load_shares<S: Source>(
     requires { IsHostCount hosts }
     ensures means { IfSome (S.left source.old) (λ bytes.
         FindsShares rules hosts (λ graphs. graphs.items) result (S.left source.new) (graph_of root bytes)) }
-    ensures shared { IfOk result (λ graphs. AreShared rules hosts graphs.items) }
+    ensures shared { IfOk result (λ graphs. (nodes : ℕ) × AreShared rules hosts nodes graphs.items) }
     ensures partition { IfOk result (λ graphs. IsPartition graphs.items) }
-    ensures words { result ≢ Err Fault.Words }
-    ensures taken { IfErr result (λ fault. IfMeant (cause_of fault) (IfSome (S.left source.old) (λ bytes.
-        LeftAfter bytes fault (S.left source.new)))) }
-    ensures counts { Counts result (S.faults source.old) (S.faults source.new) }
-{
-    let list = load(alloc, root, source)?;
-    let _ = list.nodes();
-    Ok(build_list(alloc, &list, rules, hosts)?)
-}
-
-/// The graph that the source gives, of which a root, where there is one, is a node; or the first fault.
-fn load<S: Source>(alloc: Global, root: Option<u32>, source: &mut S) -> Result<EdgeList, Fault>
-    ensures means { IfSome (S.left source.old) (λ bytes.
-        Loads result (S.left source.new) (graph_of root bytes)) }
     ensures words { result ≢ Err Fault.Words }
     ensures taken { IfErr result (λ fault. IfMeant (cause_of fault) (IfSome (S.left source.old) (λ bytes.
         LeftAfter bytes fault (S.left source.new)))) }
@@ -52,7 +38,7 @@ fn load<S: Source>(alloc: Global, root: Option<u32>, source: &mut S) -> Result<E
     let mut reader = GrReader::new(alloc)?;
     let head = reader.read_head(source)?;
     demand_node(root, head.nodes)?;
-    Ok(read_rest(alloc, &mut reader, source)?)
+    Ok(build(alloc, &mut reader, source, rules, hosts)?)
 }
 
 /// Refuses a root that is no node of so many.

@@ -3,14 +3,14 @@ ghost use Rattle.std.specs.Prelude.{◌≡◌, ◌⊎◌, None, Some, Err, IfOk,
 ghost use Rattle.command_words.specs.Items.{texts_of};
 ghost use Rattle.gluon_top.specs.Tasks.{task_of_job, task_of};
 
-use crate::fault::Fault;
 use command_words::{Job, RunWords, WordsFault, read_words};
 use edge_owner::Rules;
 use graph_model::Way;
+use job_text::Fault;
 use program_runs::Program;
 use std::alloc::Global;
 
-/// A job that runs today.
+/// What is to be done.
 #[derive(Clone, Copy, Debug, PartialEq, Eq)]
 pub enum Task {
     /// Run a program over hosts.
@@ -43,44 +43,71 @@ pub enum Task {
         /// How edges are followed.
         way: Way,
     },
+    /// Run the four programs over hosts on the graph that is made of a size and a number, and tell what they
+    /// find.
+    Selfrun {
+        /// The number of nodes, from 1 to 1,000,000.
+        size: u32,
+        /// The number that draws the edges.
+        number: u64,
+        /// The number of hosts, from 1 to 64.
+        hosts: u16,
+        /// The rules by which the graph is shared out.
+        rules: Rules,
+        /// The number that chooses the order of events.
+        order: u64,
+    },
 }
 
-/// The task that the words ask for. Words that ask for a job that does not run yet are refused.
+/// The task that the words ask for.
 pub(crate) fn read_task(alloc: Global, words: &[String]) -> Result<Task, Fault>
     ensures task { IfOk result (λ task. task_of (texts_of words.now) ≡ Some task) }
     ensures refused { result ≡ Err Fault.Words → task_of (texts_of words.now) ≡ None }
     ensures faults { IfErr result (λ fault. (fault ≡ Fault.Words) ⊎ (fault ≡ Fault.Memory)) }
 {
     match read_words(alloc, words) {
-        Ok(job) => match task_now(job) {
-            Some(task) => Ok(task),
-            None => Err(Fault::Words),
-        },
+        Ok(job) => Ok(task_of_job(job)),
         Err(WordsFault::Refused) => Err(Fault::Words),
         Err(WordsFault::Memory) => Err(Fault::Memory),
     }
 }
 
-/// The task of a job, where it runs today.
-fn task_now(job: Job) -> Option<Task>
+/// The task of a job.
+fn task_of_job(job: Job) -> Task
     ensures { result ≡ task_of_job job }
 {
     match job {
-        Job::Bfs { root, run } => Some(Task::Run {
+        Job::Bfs { root, run } => Task::Run {
             program: Program::Bfs { root },
             run,
-        }),
-        Job::Sssp { root, run } => Some(Task::Run {
+        },
+        Job::Sssp { root, run } => Task::Run {
             program: Program::Sssp { root },
             run,
-        }),
-        Job::Cc { run } => Some(Task::Run {
+        },
+        Job::Cc { run } => Task::Run {
             program: Program::Cc,
             run,
-        }),
-        Job::Make { size, number } => Some(Task::Make { size, number }),
-        Job::Owners { hosts, rules } => Some(Task::Owners { hosts, rules }),
-        Job::Proxies { hosts, rules, way } => Some(Task::Proxies { hosts, rules, way }),
-        _ => None,
+        },
+        Job::Kcore { k, run } => Task::Run {
+            program: Program::Kcore { k },
+            run,
+        },
+        Job::Owners { hosts, rules } => Task::Owners { hosts, rules },
+        Job::Proxies { hosts, rules, way } => Task::Proxies { hosts, rules, way },
+        Job::Make { size, number } => Task::Make { size, number },
+        Job::Selfrun {
+            size,
+            number,
+            hosts,
+            rules,
+            order,
+        } => Task::Selfrun {
+            size,
+            number,
+            hosts,
+            rules,
+            order,
+        },
     }
 }

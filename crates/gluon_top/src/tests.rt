@@ -229,9 +229,9 @@ fn words_come_in_any_order_and_defaults_may_be_said(rt: HostRuntime) -> Result<(
 }
 
 #[test]
-fn words_that_name_no_job_that_runs_are_refused(rt: HostRuntime) -> Result<(), Fail> {
+fn words_that_name_no_job_are_refused(rt: HostRuntime) -> Result<(), Fail> {
     let alloc = rt.alloc();
-    let all: [&[&str]; 20] = [
+    let all: [&[&str]; 18] = [
         &[],
         &["bfs"],
         &["bfs", "--root"],
@@ -250,8 +250,6 @@ fn words_that_name_no_job_that_runs_are_refused(rt: HostRuntime) -> Result<(), F
         &["cc", "--hosts", "65"],
         &["cc", "--trace=yes"],
         &["kcore", "--k", "3", "--root", "0"],
-        &["kcore", "--k", "3"],
-        &["selfrun", "--size", "1"],
     ];
     for words in all {
         let diamond = file(alloc, &DIAMOND_LONGS, &DIAMOND_WORDS, 80)?;

@@ -3,12 +3,12 @@ ghost use Rattle.std.specs.Prelude.{◌≡◌, ◌≢◌, ◌&&◌, [], ◌∷�
 ghost use Rattle.io_edge.specs.Faults.{Rose, IsQuiet};
 ghost use Rattle.io_edge.specs.Bytes.{Gains, GainsPrefix};
 ghost use Rattle.command_words.specs.Items.{texts_of};
-ghost use Rattle.gluon_top.specs.declared.fault.Fault.{Fault};
-ghost use Rattle.gluon_top.specs.Tasks.{task_of, reads_input, runs_program, HasNoBudget, BeginsAs};
-ghost use Rattle.gluon_top.specs.Fault.{fault_line};
+ghost use Rattle.job_text.specs.declared.fault.Fault.{Fault};
+ghost use Rattle.gluon_top.specs.Tasks.{task_of, reads_input, runs_program, has_order, HasNoBudget, BeginsAs};
+ghost use Rattle.job_text.specs.Fault.{fault_line};
 ghost use Rattle.gluon_top.specs.Meaning.{Answer, IsText, meaning_of, OfInput};
 ghost use Rattle.gluon_top.specs.Answers.{text_of, AreFew};
-ghost use Rattle.gluon_top.specs.Prepared.{IsGood, IsMeant, RunsAs, will_run};
+ghost use Rattle.gluon_top.specs.Prepared.{IsGood, IsMeant, GoesAs, RunsAs, will_run};
 ghost use Rattle.gluon_top.specs.Outcome.{
   WritesMeaning,
   HasInputFault,
@@ -22,16 +22,15 @@ ghost use Rattle.gluon_top.specs.Outcome.{
 };
 
 use crate::answers::Answers;
-use crate::fault::Fault;
-use crate::lines::{Lines, write_lines};
 use crate::prepared::{Prepared, prepare};
 use crate::runs::finish_run;
-use crate::status::{
-    DONE, INPUT_REFUSED, NO_MEMORY, READ_FAILED, ROUNDS_SPENT, WORDS_REFUSED, WRITE_FAILED,
-};
 use gr_writer::write_graph;
 use io_edge::{Picker, Sink, SinkFault, Source};
-use program_runs::LastRun;
+use job_text::{
+    DONE, Fault, INPUT_REFUSED, Lines, NO_MEMORY, READ_FAILED, ROUNDS_SPENT, WORDS_REFUSED,
+    WRITE_FAILED, write_lines,
+};
+use program_runs::{LastRun, programs_end};
 use std::alloc::Global;
 
 /// How a call ended.
@@ -45,8 +44,8 @@ pub struct Outcome {
 }
 
 /// Does the job that the words name, on the graph that the source gives where it reads one, and writes its text
-/// or the line of the first fault to the sink, in whole pages. For a run the picker begins once from the number
-/// that the words give, and picks the order of events.
+/// or the line of the first fault to the sink, in whole pages. For a run, and for a trial, the picker begins once
+/// from the number that the words give, and picks the order of events.
 pub fn gluon_main<S: Source, K: Sink, P: Picker>(
     alloc: Global,
     words: &[String],
@@ -67,7 +66,7 @@ pub fn gluon_main<S: Source, K: Sink, P: Picker>(
     // Without a number of rounds a run always comes to its end.
     ensures free { HasNoBudget (task_of (texts_of words.now)) → result.status ≢ ROUNDS_SPENT }
     // A run goes by hosts: the cluster that is handed back stands for its last round, and the picker was asked
-    // for each event.
+    // for each event. So do the runs of a trial.
     ensures hosts { OfInput (texts_of words.now) (S.left source.old) (λ bytes.
         RunsAs (meaning_of (texts_of words.now) bytes) result.status result.last (P.asked picker.old) (P.asked picker.new)) }
     // Where the words are refused, or ask for a job that needs no input, none is read.
@@ -89,7 +88,7 @@ pub fn gluon_main<S: Source, K: Sink, P: Picker>(
     // After it, what follows the section with the fault is left.
     ensures taken { result.status ≡ INPUT_REFUSED → OfInput (texts_of words.now) (S.left source.old) (λ bytes.
         LeavesAfterFault (meaning_of (texts_of words.now) bytes) bytes (S.left source.new)) }
-    // 5 comes exactly where walks take more rounds than a run may have, and no read or write failed.
+    // 5 comes exactly where the graph calls for more rounds than a run may have, and no read or write failed.
     ensures spent_only { result.status ≡ ROUNDS_SPENT → OfInput (texts_of words.now) (S.left source.old) (λ bytes.
         SpendsBudget (meaning_of (texts_of words.now) bytes)) }
     ensures spent { OfInput (texts_of words.now) (S.left source.old) (λ bytes.
@@ -110,12 +109,13 @@ pub fn gluon_main<S: Source, K: Sink, P: Picker>(
 
     // The cluster of a run is handed back exactly where it is done.
     ensures last { is_some result.last ≡ (nat_eq result.status 0 && runs_program (task_of (texts_of words.now))) }
-    // For a run the picker begins from its order; other jobs leave it alone.
+    // For a run and for a trial the picker begins from its order; other jobs leave it alone.
     ensures begun { result.status ≢ NO_MEMORY →
         BeginsAs (task_of (texts_of words.now)) (P.begun picker.old) (P.begun picker.new) }
-    ensures unbegun { runs_program (task_of (texts_of words.now)) ≡ false → P.begun picker.new ≡ P.begun picker.old }
-    ensures unasked { runs_program (task_of (texts_of words.now)) ≡ false → P.asked picker.new ≡ P.asked picker.old }
+    ensures unbegun { has_order (task_of (texts_of words.now)) ≡ false → P.begun picker.new ≡ P.begun picker.old }
+    ensures unasked { has_order (task_of (texts_of words.now)) ≡ false → P.asked picker.new ≡ P.asked picker.old }
 {
+    programs_end();
     let prepared = prepare(alloc, words, source, picker);
     finish(alloc, prepared, sink, picker)
 }
@@ -130,7 +130,7 @@ fn finish<K: Sink, P: Picker>(
     requires { IfOk prepared IsGood }
     ensures written { (meaning : Result Answer Fault) → IsMeant prepared meaning → Writes meaning
         (K.faults sink.old) (K.faults sink.new) (K.held sink.old) (K.held sink.new) result.status }
-    ensures hosts { (meaning : Result Answer Fault) → IsMeant prepared meaning → RunsAs meaning
+    ensures hosts { (meaning : Result Answer Fault) → IsMeant prepared meaning → GoesAs meaning
         result.status result.last (P.asked picker.old) (P.asked picker.new) }
     ensures last { is_some result.last ≡ (nat_eq result.status 0 && will_run prepared) }
     ensures unasked { will_run prepared ≡ false → P.asked picker.new ≡ P.asked picker.old }
@@ -193,6 +193,14 @@ fn write_answers<K: Sink>(sink: &mut K, answers: &Answers) -> Result<(), SinkFau
     match answers {
         Answers::Made(graph) => write_graph(sink, graph, 4),
         Answers::Owned(list, plan) => write_lines(sink, Lines::Owners(list, plan)),
-        Answers::Divided(divided) => write_lines(sink, Lines::Divided(divided)),
+        Answers::Divided(divided) => write_lines(
+            sink,
+            Lines::Divided {
+                graphs: &divided.graphs,
+                memos: &divided.memos,
+                way: divided.way,
+            },
+        ),
+        Answers::Tried(trial) => write_lines(sink, Lines::Trial(*trial)),
     }
 }

@@ -1,8 +1,6 @@
 -- The text of a run of a program of labels, in the words of walks.
-use Rattle.std.proofs.Common.{◌≡◌, ℕ, ◌-◌, ◌<◌, ◌^◌, true, List, [], ◌∷◌, ◌++◌, map, Option, Some, refl, ◌∙◌, ap, arith}
+use Rattle.std.proofs.Common.{◌≡◌, ℕ, ◌-◌, ◌<◌, ◌^◌, List, Option, Some, arith}
 use Rattle.std.specs.Int.{w32, w64, to_le_bytes}
-use Rattle.std.specs.List.{flat_map}
-use Rattle.std.proofs.lemmas.List.Elements.{All-weaker, filter_passes}
 use Rattle.list_laws.specs.LittleEndian.{le_bytes}
 use Rattle.list_laws.proofs.WholeNumbers.{to_le_bytes-le}
 use Rattle.graph_model.specs.Graph.{Graph, IsGraph}
@@ -18,14 +16,10 @@ use Rattle.graph_division.specs.Division.{Division, whole}
 use Rattle.graph_division.proofs.GraphArcs.{graphs_have_arcs}
 use Rattle.graph_division.proofs.Partitions.{partitions_divide}
 use Rattle.lone_rounds.specs.RoundCount.{IsRoundCount}
-use Rattle.field_encodings.specs.Forms.{names, sent}
-use Rattle.round_packets.specs.Packets.{Packet, Agree, marks_of, tag_of, bytes_of_packet}
 use Rattle.round_packets.specs.RunPackets.{reduce_packet, broadcast_packet}
 use Rattle.round_packets.specs.Runs.{state_of}
-use Rattle.round_packets.proofs.SameBytes.{same_bytes}
-use Rattle.cluster_laws.specs.Channels.{Leg, is_channel, pairs, channels, payload, payload_of}
+use Rattle.cluster_laws.specs.Channels.{Leg, payload, payload_of}
 use Rattle.cluster_laws.specs.Channels.Leg.{reduce, broadcast}
-use Rattle.cluster_laws.proofs.InTime.{channel_parts}
 use Rattle.vertex_programs.specs.Labels.{Fits, StartsBelow}
 use Rattle.vertex_programs.specs.Programs.{root_starts_below, own_starts_below}
 use Rattle.vertex_programs.specs.LabelPackets.{AreLeast, label_reduce_packet, label_broadcast_packet}
@@ -36,45 +30,32 @@ use Rattle.vertex_programs.proofs.GraphRuns.{labels_find_least, labels_are_sent,
 use Rattle.run_text.specs.Told.{told_by}
 use Rattle.label_runs.specs.ByWalks.{Labels, walk_payload, told_by_walks, bfs_labels, sssp_labels, cc_labels}
 use Rattle.label_runs.specs.Laws.{TellsWhatWalksDo, WalksEnd}
-use Rattle.label_runs.proofs.SameText.{TellSame, same_run_text}
-
--- two functions that write each value alike write all alike
-write_alike : {X : Type 0} (f g : X → List ℕ) → ((x : X) → f x ≡ g x) → (xs : List X) → flat_map f xs ≡ flat_map g xs
-write_alike f g alike [] = refl
-write_alike f g alike (x ∷ xs) = ap (λ text. text ++ flat_map f xs) (alike x) ∙ ap (λ text. g x ++ text) (write_alike f g alike xs)
-
--- and so do they a packet
-packet_alike : {X : Type 0} (size : ℕ) (f g : X → List ℕ) → ((x : X) → f x ≡ g x) → (packet : Packet X) → bytes_of_packet size f packet ≡ bytes_of_packet size g packet
-packet_alike size f g alike packet =
-    ap (λ text. tag_of size packet ∷ (names (tag_of size packet) packet.ids (marks_of packet) ++ text))
-    (write_alike f g alike (sent (tag_of size packet) (marks_of packet) (map packet.value packet.ids)))
+use Rattle.run_text.proofs.SameText.{TellSame, on_channels, same_run_text}
+use Rattle.run_text.proofs.SamePackets.{same_packet}
 
 module _ (size : ℕ) (fares : Fares) (bytes : ℕ → List ℕ) (alike : (x : ℕ) → bytes x ≡ le_bytes size x) where
-  -- packets that agree, each with its bytes
-  same_packet : (packet other : Packet ℕ) → Agree packet other → bytes_of_packet size bytes packet ≡ bytes_of_packet size (le_bytes size) other
-  same_packet packet other agree = packet_alike size bytes (le_bytes size) alike packet ∙ same_bytes ℕ size (le_bytes size) packet other agree
-
   -- what is sent on a leg is what walks call for
   same_payload : (division : Division) (plain : ℕ → ℕ → Option ℕ) → SendsLabels (256 ^ size - 1) fares plain (label_run size fares division) → (rounds : ℕ) (leg : Leg) (from to : ℕ) → from < division.hosts →
       payload_of bytes bytes (label_run size fares division) rounds leg from to ≡ walk_payload (record { size = size; fares = fares }) division plain rounds leg from to
   same_payload division plain sends rounds reduce from to there =
-      same_packet (reduce_packet (label_run size fares division) rounds from to) (label_reduce_packet (256 ^ size - 1) fares division plain rounds from to) (sends.reduces rounds from to there)
+      same_packet size bytes (le_bytes size) (reduce_packet (label_run size fares division) rounds from to) (label_reduce_packet (256 ^ size - 1) fares division plain rounds from to)
+      (λ v. alike ((label_reduce_packet (256 ^ size - 1) fares division plain rounds from to).value v)) (sends.reduces rounds from to there)
   same_payload division plain sends rounds broadcast from to there =
-      same_packet (broadcast_packet (label_run size fares division) rounds from to) (label_broadcast_packet (256 ^ size - 1) division plain rounds from to) (sends.broadcasts rounds from to)
+      same_packet size bytes (le_bytes size) (broadcast_packet (label_run size fares division) rounds from to) (label_broadcast_packet (256 ^ size - 1) division plain rounds from to)
+      (λ v. alike ((label_broadcast_packet (256 ^ size - 1) division plain rounds from to).value v)) (sends.broadcasts rounds from to)
 
   -- a run tells what walks call for
   tells_same : (graph : Graph) (way : Way) (division : Division) (plain : ℕ → ℕ → Option ℕ) → IsDivisionOf graph way division
       → FindsLeast (256 ^ size - 1) fares graph way (label_run size fares division) → SendsLabels (256 ^ size - 1) fares plain (label_run size fares division) → AreLeast fares graph.nodes (arcs_of way graph.edges) plain
-      → TellSame division (told_by bytes bytes (label_run size fares division)) (told_by_walks (record { size = size; fares = fares }) division plain)
+      → TellSame division (IsRoundCount (label_run size fares division).reducer (label_run size fares division).steps division.nodes (whole division)) (told_by bytes bytes (label_run size fares division)) (told_by_walks (record { size = size; fares = fares }) division plain)
   tells_same graph way division plain divides finds sends least =
       let run = label_run size fares division in
       let labels : Labels = record { size = size; fares = fares } in
       record {
         payloads = λ rounds.
-            All-weaker (λ channel. is_channel division channel ≡ true) (λ channel. payload bytes bytes run rounds channel ≡ walk_payload labels division plain rounds channel.leg channel.from channel.to)
-            (λ channel is. same_payload division plain sends rounds channel.leg channel.from channel.to (channel_parts run channel is).there)
-            (channels division) (filter_passes (is_channel division) (pairs division reduce ++ pairs division broadcast));
-        answers = λ rounds v below.
+            on_channels run (λ channel. payload bytes bytes run rounds channel ≡ walk_payload labels division plain rounds channel.leg channel.from channel.to)
+            (λ channel there. same_payload division plain sends rounds channel.leg channel.from channel.to there);
+        answers = λ rounds v count below.
             let node : v < graph.nodes = omega (arith, below, divides.nodes) in
             IsLeast_unique fares (arcs_of way graph.edges) (Some rounds) v (run.steps.answer (state_of run rounds v)) (plain rounds v) (finds.by_round rounds v node) (least rounds v node);
       }
@@ -94,8 +75,8 @@ module _ (size : ℕ) (fares : Fares) (bytes : ℕ → List ℕ) (alike : (x : �
         plain = found.0;
         least = found.1;
         is_text =
-            same_run_text asked way shares (told_by bytes bytes run) (told_by_walks labels division found.0) (tells_same graph way division found.0 divides finds sends found.1)
-            (IsRoundCount run.reducer run.steps run.division.nodes (whole run.division)) (IsWalkCount fares graph.nodes (arcs_of way graph.edges)) finds.counts budget rounds text is;
+            same_run_text asked way shares (IsRoundCount run.reducer run.steps run.division.nodes (whole run.division)) (told_by bytes bytes run) (told_by_walks labels division found.0)
+            (tells_same graph way division found.0 divides finds sends found.1) (IsWalkCount fares graph.nodes (arcs_of way graph.edges)) finds.counts budget rounds text is;
       }
 
 -- walks end

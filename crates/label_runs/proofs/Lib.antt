@@ -1,2 +1,1 @@
-pub mod SameText
 pub mod LabelRuns

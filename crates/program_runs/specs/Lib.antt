@@ -1,3 +1,3 @@
 pub mod Programs
 pub mod LastRuns
-pub mod ByWalks
+pub mod Ends

@@ -1,4 +1,5 @@
 //! The cluster of a run that came to its end.
+use kcore_program::Kcore;
 use round_driver::Cluster;
 use vertex_programs::{Bfs, Components, Sssp};
 
@@ -11,4 +12,6 @@ pub enum LastRun {
     Sssp(Cluster<Sssp>),
     /// Of components.
     Cc(Cluster<Components>),
+    /// Of k-core.
+    Kcore(Cluster<Kcore>),
 }

@@ -8,13 +8,14 @@ ghost use Rattle.memo_exchange.specs.Asks.{asked_after};
 ghost use Rattle.run_text.specs.Asks.{asks};
 ghost use Rattle.run_text.specs.Text.{budget_of};
 ghost use Rattle.run_engine.specs.Outcome.{asked_by, rounds_at, IfRan};
-ghost use Rattle.program_runs.specs.Programs.{labels_of};
 ghost use Rattle.program_runs.specs.LastRuns.{round_of, IsLastRun};
-ghost use Rattle.program_runs.specs.ByWalks.{EndsByWalks};
+ghost use Rattle.program_runs.specs.Ends.{EndsRun};
 
 use crate::last_run::LastRun;
 use crate::program::Program;
+use core_runs::kcore_tells_peeling;
 use io_edge::{Picker, Sink};
+use kcore_program::Kcore;
 use label_runs::programs_tell_walks;
 use proxy_graph::LocalGraph;
 use run_engine::{RunFault, RunJob, run};
@@ -34,10 +35,9 @@ pub fn run_program<K: Picker, O: Sink>(
 ) -> Result<LastRun, RunFault>
     requires partition { IsPartition graphs.items }
     requires rounds { IfSome job.rounds (λ rounds. 1 ≤ rounds) }
-    // What is written is what walks on the graph call for, however the graph is divided; and when each refusal
-    // comes.
-    ensures walks { (graph : Graph) → IsGraph graph → IsDivisionOf graph job.way (division_of job.way graphs.items)
-        → EndsByWalks (labels_of program) graph (asked_by job) job.way graphs.items (budget_of job.rounds graph.nodes)
+    // What is written is what the graph calls for, however it is divided; and when each refusal comes.
+    ensures text { (graph : Graph) → IsGraph graph → IsDivisionOf graph job.way (division_of job.way graphs.items)
+        → EndsRun program graph (asked_by job) job.way graphs.items (budget_of job.rounds graph.nodes)
         round_of result (state_of O.Sink sink.old) (state_of O.Sink sink.new) }
     // The cluster stands for the moment after the last round.
     ensures last { IfOk result (IsLastRun program job.way graphs.items) }
@@ -47,6 +47,7 @@ pub fn run_program<K: Picker, O: Sink>(
     ensures begun { K.begun picker.new ≡ K.begun picker.old }
 {
     programs_tell_walks();
+    kcore_tells_peeling();
     match program {
         Program::Bfs { root } => {
             let ended = run(alloc, Bfs { root }, job, graphs, picker, sink)?;
@@ -59,6 +60,10 @@ pub fn run_program<K: Picker, O: Sink>(
         Program::Cc => {
             let ended = run(alloc, Components, job, graphs, picker, sink)?;
             Ok(LastRun::Cc(ended.cluster))
+        }
+        Program::Kcore { k } => {
+            let ended = run(alloc, Kcore { k }, job, graphs, picker, sink)?;
+            Ok(LastRun::Kcore(ended.cluster))
         }
     }
 }

@@ -1,1 +1,3 @@
 mod Texts
+pub mod SameText
+pub mod SamePackets

@@ -3,7 +3,7 @@ use Rattle.cusp_rules.specs.Formulas.{masters_of}
 use Rattle.share_plan.specs.Starts.{starts_of}
 use Rattle.share_plan.specs.Owners.{owner_at}
 use Rattle.share_plan.specs.Plan.{Plan, owner_by}
-use Rattle.gluon_top.proofs.OwnerLines.{lines_of-same}
+use Rattle.job_text.proofs.OwnerLines.{lines_of-same}
 use Rattle.gluon_top.proofs.owners.owners.Goals as goal
 
 pub returns-clause-text : goal.returns-clause-text

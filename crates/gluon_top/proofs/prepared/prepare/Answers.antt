@@ -1,13 +1,13 @@
 use Rattle.std.proofs.Common.{◌∙◌, ap, map, string_bytes, Some, Err, refl, []}
-use Rattle.gluon_top.specs.Meaning.{ran, generated, owned, divided}
+use Rattle.gluon_top.specs.Meaning.{ran, generated, owned, divided, tried}
 use Rattle.std.proofs.lemmas.Result.{err_from_is_err_and}
 use Rattle.gluon_top.specs.declared.answers.Answers.TheVariants.{Made, Owned, Divided}
 use Rattle.graph_model.specs.declared.edge.Way.{Way}
 use Rattle.partition_text.specs.Text.{partition_text}
 use Rattle.gr_writer.specs.File.{file_of}
-use Rattle.gluon_top.proofs.Sizes.{size_in_range}
-use Rattle.gluon_top.proofs.HostRanges.{run_in_range, hosts_in_range, proxy_hosts_in_range}
-use Rattle.gluon_top.proofs.Loading.{refused_stops, run_stops, run_ready, graph_made, owners_found, owners_stop, proxies_found, proxies_stop}
+use Rattle.graph_maker.specs.MadeGraph.{made_graph}
+use Rattle.gluon_top.proofs.Ranges.{run_in_range, hosts_in_range, proxy_hosts_in_range, size_in_range, trial_in_range}
+use Rattle.gluon_top.proofs.Loading.{refused_stops, run_stops, run_ready, graph_made, owners_found, owners_stop, proxies_found, proxies_stop, trial_found}
 use Rattle.gluon_top.proofs.prepared.prepare.Goals as goal
 
 pub returns-in_err-program-clause-means : goal.returns-in_err-program-clause-means
@@ -38,11 +38,11 @@ returns-in_ok-make-in-Make-clause-means g c =
 
 pub make-requires-clause-some : goal.make-requires-clause-some
 make-requires-clause-some g c =
-    (size_in_range (map string_bytes c.args.words.now) c.in-Make.size c.in-Make.number (c.in_ok-program.ensures.task ∙ ap (λ task. Some task) c.in-Make.is)).0
+    (size_in_range (map string_bytes c.args.words.now) c.in-Make.size c.in-Make.number (c.in_ok-program.ensures.task ∙ ap (λ task. Some task) c.in-Make.is)).some
 
 pub make-requires-clause-few : goal.make-requires-clause-few
 make-requires-clause-few g c =
-    (size_in_range (map string_bytes c.args.words.now) c.in-Make.size c.in-Make.number (c.in_ok-program.ensures.task ∙ ap (λ task. Some task) c.in-Make.is)).1
+    (size_in_range (map string_bytes c.args.words.now) c.in-Make.size c.in-Make.number (c.in_ok-program.ensures.task ∙ ap (λ task. Some task) c.in-Make.is)).few
 
 pub owners-requires : goal.owners-requires
 owners-requires g c =
@@ -79,7 +79,7 @@ returns-in_ok-divided-in-Proxies-clause-means g c =
 
 pub returns-in_ok-graphs-in-Run-clause-answered : goal.returns-in_ok-graphs-in-Run-clause-answered
 returns-in_ok-graphs-in-Run-clause-answered g c =
-    let shared = c.in_ok-graphs-in-Run.ensures.shared in
+    let shared = c.in_ok-graphs-in-Run.ensures.shared.1 in
     (ran c.in-Run.program c.in-Run.run' shared.graph [], record { same_program = refl; same_words = refl; is_graph = shared.is_graph; shared_out = shared.shared_out })
 
 pub returns-in_ok-graphs-in-Run-clause-good : goal.returns-in_ok-graphs-in-Run-clause-good
@@ -97,3 +97,17 @@ returns-in_ok-owned-in-Owners-clause-answered g c =
 pub returns-in_ok-divided-in-Proxies-clause-answered : goal.returns-in_ok-divided-in-Proxies-clause-answered
 returns-in_ok-divided-in-Proxies-clause-answered g c =
     (divided c.in_ok-divided-in-Proxies.divided.way c.in_ok-divided-in-Proxies.divided.graphs.items [], refl)
+
+pub run_trial-requires : goal.run_trial-requires
+run_trial-requires g c =
+    let range = trial_in_range (map string_bytes c.args.words.now) c.in-Selfrun.size c.in-Selfrun.number c.in-Selfrun.hosts c.in-Selfrun.rules c.in-Selfrun.order (c.in_ok-program.ensures.task ∙ ap (λ task. Some task) c.in-Selfrun.is) in
+    record { some = range.0.some; few = range.0.few; hosts = range.1 }
+
+pub returns-in_ok-trial-in-Selfrun-clause-means : goal.returns-in_ok-trial-in-Selfrun-clause-means
+returns-in_ok-trial-in-Selfrun-clause-means g c =
+    trial_found (map string_bytes c.args.words.now) c.in-Selfrun.size c.in-Selfrun.number c.in-Selfrun.hosts c.in-Selfrun.rules c.in-Selfrun.order (g.S.Source.left c.args.source.now) (g.S.Source.left c.args.source.now) c.in_ok-trial-in-Selfrun.trial
+    (c.in_ok-program.ensures.task ∙ ap (λ task. Some task) c.in-Selfrun.is) c.in_ok-trial-in-Selfrun.ensures.trial
+
+pub returns-in_ok-trial-in-Selfrun-clause-answered : goal.returns-in_ok-trial-in-Selfrun-clause-answered
+returns-in_ok-trial-in-Selfrun-clause-answered g c =
+    (tried c.in-Selfrun.rules c.in-Selfrun.hosts (made_graph c.in-Selfrun.size c.in-Selfrun.number), (c.in_ok-trial-in-Selfrun.trial, c.in_ok-trial-in-Selfrun.ensures.trial, refl))

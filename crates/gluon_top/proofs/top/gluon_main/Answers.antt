@@ -1,8 +1,8 @@
 use Rattle.std.proofs.Common.{ℕ, List, Option, map, string_bytes, ◌∙◌, sym, subst}
 use Rattle.gluon_top.specs.Tasks.{task_of, reads_input, runs_program, BeginsAs}
 use Rattle.gluon_top.specs.Meaning.{meaning_of}
-use Rattle.gluon_top.specs.Prepared.{RunsAs}
 use Rattle.gluon_top.proofs.Outcomes.{OfBytes-map, Came, free_of, headline, complete, known, words_only, words_refused, input_only, input_fault, spent_only, spent, free, taken_of_input, memory_held, write_rose, write_quiet, front, read_only, read_quiet, runs_as, last_comes, no_run, not_memory}
+use Rattle.gluon_top.proofs.Asking.{no_program, asks_none}
 use Rattle.gluon_top.proofs.top.gluon_main.Goals as goal
 
 pub returns : goal.returns
@@ -26,10 +26,9 @@ returns g c =
           headline (meaning_of words bytes) left' held held' fs fs' fk fk' status prepared finds came memory source sink);
       complete = OfBytes-map needed left _ _ was.means (λ bytes finds ok source sink.
           complete (meaning_of words bytes) left' held held' fs fs' fk fk' status prepared finds came ok source sink);
-      free = λ none. free held held' fs fs' fk fk' status prepared (free_of prepared was.free none) came;
+      free = λ none. free c.programs_end.ensures held held' fs fs' fk fk' status prepared (free_of prepared was.free none) came;
       hosts = OfBytes-map needed left _ _ was.means (λ bytes finds.
-          subst (λ (asked : Option ℕ). RunsAs (meaning_of words bytes) status c.finish.result.last asked (g.P.Picker.asked c.finish.new.picker)) was.asked
-          (runs_as (meaning_of words bytes) left' held held' fs fs' fk fk' status prepared c.finish.result.last (g.P.Picker.asked c.prepare-prepared.new.picker) (g.P.Picker.asked c.finish.new.picker) finds came c.finish.ensures.hosts));
+          runs_as words bytes left' held held' fs fs' fk fk' status prepared c.finish.result.last (g.P.Picker.asked c.args.picker.now) (g.P.Picker.asked c.prepare-prepared.new.picker) (g.P.Picker.asked c.finish.new.picker) finds came was.asked was.kind c.finish.ensures.unasked c.finish.ensures.hosts);
       unread = was.unread;
       known = known held held' fs fs' fk fk' status prepared came;
       words_only = words_only (task_of words) held held' fs fs' fk fk' status prepared was.words came;
@@ -53,5 +52,6 @@ returns g c =
       begun = λ not4. subst (λ (begun : Option (Option ℕ)). BeginsAs (task_of words) (g.P.Picker.begun c.args.picker.now) begun) (sym c.finish.ensures.begun)
           (was.begun (not_memory held held' fs fs' fk fk' status prepared came not4));
       unbegun = λ no. c.finish.ensures.begun ∙ was.unbegun no;
-      unasked = λ no. c.finish.ensures.unasked (no_run prepared (runs_program (task_of words)) was.kind no) ∙ was.asked;
+      unasked = λ no. c.finish.ensures.unasked (no_run prepared (runs_program (task_of words)) was.kind (no_program (task_of words) no))
+          ∙ asks_none (task_of words) prepared (g.P.Picker.asked c.args.picker.now) (g.P.Picker.asked c.prepare-prepared.new.picker) no was.asked;
     }

@@ -1,0 +1,2 @@
+pub mod ByPeeling
+pub mod Laws

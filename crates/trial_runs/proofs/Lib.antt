@@ -1,0 +1,6 @@
+pub mod Bounds
+pub mod Light
+pub mod Counts
+pub mod AtLast
+pub mod FromRuns
+pub mod Asking
