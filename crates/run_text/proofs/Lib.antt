@@ -1,3 +1,3 @@
-mod Texts
+mod Places
 pub mod SameText
 pub mod SamePackets

@@ -1,7 +1,7 @@
 use Rattle.std.proofs.Common.{ap, sym}
 use Rattle.io_edge.proofs.Writings.{WroteBy-++}
 use Rattle.answer_writer.specs.Report.{class_line}
-use Rattle.partition_text.proofs.Texts.{by_as}
+use Rattle.io_edge.proofs.Texts.{by_as}
 use Rattle.partition_text.proofs.classes.write_class.Goals as goal
 
 pub returns-then-holds : goal.returns-then-holds

@@ -2,7 +2,7 @@ use Rattle.std.proofs.Common.{◌++◌, ap, codes}
 use Rattle.io_edge.proofs.Writings.{WroteFront-++, WroteFront-more, WroteBy-++, WroteBy-err}
 use Rattle.answer_writer.specs.Report.{class_line}
 use Rattle.graph_division.specs.Classes.{has_in, has_both, no_mirror}
-use Rattle.partition_text.proofs.Texts.{all_as, front_as, by_as}
+use Rattle.io_edge.proofs.Texts.{all_as, front_as, by_as}
 use Rattle.partition_text.proofs.classes.write_classes.Goals as goal
 
 pub returns-in_err-write_class : goal.returns-in_err-write_class

@@ -3,7 +3,7 @@ use Rattle.io_edge.proofs.Writings.{WroteFront-++, WroteFront-more, WroteBy-++, 
 use Rattle.answer_writer.specs.Lines.{words_line}
 use Rattle.graph_division.specs.Shares.{Share, masters_here, mirrors_here}
 use Rattle.partition_text.specs.Hosts.{number_after}
-use Rattle.partition_text.proofs.Texts.{all_as, front_as, by_as}
+use Rattle.io_edge.proofs.Texts.{all_as, front_as, by_as}
 use Rattle.partition_text.proofs.hosts.write_host_line.Goals as goal
 
 -- what follows the number of mirrors, that of masters and that of the host

@@ -1,6 +1,6 @@
 use Rattle.io_edge.proofs.Writings.{WroteBy-err}
 use Rattle.partition_text.specs.Hosts.{host_text}
-use Rattle.partition_text.proofs.Texts.{WroteAll-texts, WroteFront-texts}
+use Rattle.io_edge.proofs.Texts.{WroteAll-texts, WroteFront-texts}
 use Rattle.partition_text.proofs.hosts.write_hosts.Goals as goal
 
 pub loop-graph-preserved : goal.loop-graph-preserved

@@ -3,7 +3,7 @@ use Rattle.io_edge.proofs.Writings.{WroteBy-err}
 use Rattle.graph_division.specs.Shares.{proxies_here}
 use Rattle.proxy_graph.specs.Heads.{vertex_at}
 use Rattle.partition_text.specs.Hosts.{proxy_line}
-use Rattle.partition_text.proofs.Texts.{WroteAll-texts, WroteFront-texts}
+use Rattle.io_edge.proofs.Texts.{WroteAll-texts, WroteFront-texts}
 use Rattle.partition_text.proofs.hosts.write_proxies.Goals as goal
 
 pub loop-lid-preserved : goal.loop-lid-preserved

@@ -5,7 +5,7 @@ use Rattle.graph_model.specs.declared.edge.Way.{Way}
 use Rattle.graph_division.specs.Shares.{Share, proxies_here}
 use Rattle.proxy_graph.specs.Heads.{vertex_at}
 use Rattle.partition_text.specs.Hosts.{number_after, flags_end}
-use Rattle.partition_text.proofs.Texts.{all_as, front_as, by_as}
+use Rattle.io_edge.proofs.Texts.{all_as, front_as, by_as}
 use Rattle.partition_text.proofs.hosts.write_proxy.Goals as goal
 
 -- what follows the vertex, and the host

@@ -3,7 +3,7 @@ use Rattle.std.proofs.lemmas.Bool.{eqb-false}
 use Rattle.io_edge.proofs.Writings.{WroteFront-++, WroteFront-more, WroteBy-++, WroteBy-err}
 use Rattle.partition_text.specs.Hosts.{number_after}
 use Rattle.partition_text.proofs.ListLines.{vertices_text, to_text, full_line}
-use Rattle.partition_text.proofs.Texts.{all_as, front_as, by_as}
+use Rattle.io_edge.proofs.Texts.{all_as, front_as, by_as}
 use Rattle.partition_text.proofs.lists.write_list.Goals as goal
 
 pub returns-in_err-write_number_after : goal.returns-in_err-write_number_after

@@ -5,7 +5,7 @@ use Rattle.graph_division.specs.Partition.{division_of}
 use Rattle.address_memo.specs.Memos.{Memos, Proxies}
 use Rattle.partition_text.specs.Lists.{list_line, line_between}
 use Rattle.partition_text.proofs.FewHosts.{lists_with_each}
-use Rattle.partition_text.proofs.Texts.{by_as}
+use Rattle.io_edge.proofs.Texts.{by_as}
 use Rattle.partition_text.proofs.lists.write_list_between.Goals as goal
 
 -- a memo stands at its place

@@ -6,7 +6,7 @@ use Rattle.graph_division.specs.Division.{Division, hosts_of}
 use Rattle.graph_division.specs.Partition.{division_of}
 use Rattle.partition_text.specs.Lists.{line_between}
 use Rattle.partition_text.proofs.ListLines.{host_at, host_within, all_hosts}
-use Rattle.partition_text.proofs.Texts.{all_as, WroteAll-texts, WroteFront-texts}
+use Rattle.io_edge.proofs.Texts.{all_as, WroteAll-texts, WroteFront-texts}
 use Rattle.partition_text.proofs.lists.write_lists.Goals as goal
 
 -- the lines of the lists along which a host sends

@@ -5,7 +5,7 @@ use Rattle.graph_division.specs.Division.{hosts_of}
 use Rattle.graph_division.specs.Partition.{division_of}
 use Rattle.partition_text.specs.Lists.{line_between}
 use Rattle.partition_text.proofs.ListLines.{host_at, host_within, all_hosts}
-use Rattle.partition_text.proofs.Texts.{all_as, WroteAll-texts, WroteFront-texts}
+use Rattle.io_edge.proofs.Texts.{all_as, WroteAll-texts, WroteFront-texts}
 use Rattle.partition_text.proofs.lists.write_lists_from.Goals as goal
 
 pub loop-to-preserved : goal.loop-to-preserved

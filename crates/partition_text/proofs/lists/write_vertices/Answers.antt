@@ -2,7 +2,7 @@ use Rattle.std.proofs.Common.{get_or, codes, ap, refl}
 use Rattle.io_edge.proofs.Writings.{WroteBy-err}
 use Rattle.answer_writer.specs.Lines.{spaced_number}
 use Rattle.partition_text.specs.Hosts.{number_after}
-use Rattle.partition_text.proofs.Texts.{all_as, front_as, WroteAll-texts, WroteFront-texts}
+use Rattle.io_edge.proofs.Texts.{all_as, front_as, WroteAll-texts, WroteFront-texts}
 use Rattle.partition_text.proofs.lists.write_vertices.Goals as goal
 
 pub loop-vertex-preserved : goal.loop-vertex-preserved

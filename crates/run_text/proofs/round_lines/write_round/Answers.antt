@@ -2,7 +2,8 @@ use Rattle.std.proofs.Common.{length, ap, arith}
 use Rattle.std.specs.List.{flat_map, range_with_len}
 use Rattle.io_edge.proofs.Writings.{WroteBy-err}
 use Rattle.run_text.specs.Lines.{channel_line}
-use Rattle.run_text.proofs.Texts.{all_as, front_as, WroteAll-texts, WroteFront-texts, number_at, number_within, all_numbers, line_of}
+use Rattle.io_edge.proofs.Texts.{all_as, front_as, WroteAll-texts, WroteFront-texts}
+use Rattle.run_text.proofs.Places.{number_at, number_within, all_numbers, line_of}
 use Rattle.run_text.proofs.round_lines.write_round.Goals as goal
 
 pub loop-id-preserved : goal.loop-id-preserved
