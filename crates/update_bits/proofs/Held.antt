@@ -1,5 +1,5 @@
 -- The set that words hold: which numbers are in it, and how many.
-use Rattle.std.proofs.Common.{◌≡◌, ◌≢◌, ℕ, zero, suc, ◌+◌, ◌*◌, ◌/◌, ◌%◌, ◌^◌, ◌<◌, ◌≤◌, Bool, true, false, List, [], ◌∷◌, ◌++◌, length, take, drop, get_or, refl, sym, ap, ◌∙◌, cond, arith, inl, inr}
+use Rattle.std.proofs.Common.{◌≡◌, ◌≢◌, ℕ, zero, suc, ◌+◌, ◌*◌, ◌/◌, ◌%◌, ◌^◌, ◌<◌, ◌≤◌, Bool, true, false, List, [], ◌∷◌, ◌++◌, length, take, drop, get_or, refl, sym, ap, subst, ◌∙◌, cond, arith, inl, inr}
 use Rattle.std.specs.Prelude.{nat_eq, slice_set, replicate, count_by, nat_lt, Option, Some, None, IfSome}
 use Rattle.std.specs.Int.{bit_at}
 use Rattle.std.proofs.lemmas.Bool.{cases_eq, cases_lt, lt-ltb, le-ltb, true≢false}
@@ -87,6 +87,10 @@ pub record OneBit (words new : List ℕ) (i : ℕ) (bit : Bool) : Type 0 where
   pub at : bit_in new i ≡ bit
   pub others : (k : ℕ) → k ≢ i → bit_in new k ≡ bit_in words k
 
+-- words that were lent for the write
+pub OneBit-lent : (words lent new : List ℕ) (i : ℕ) (bit : Bool) → lent ≡ words → length new ≡ length lent → bit_in new i ≡ bit → ((k : ℕ) → k ≢ i → bit_in new k ≡ bit_in lent k) → OneBit words new i bit
+OneBit-lent words lent new i bit value len at others = subst (λ own. OneBit own new i bit) value (record { len = len; at = at; others = others })
+
 -- are enough, and hold no spare bit
 pub AreWords-one : (count : ℕ) (words new : List ℕ) (i : ℕ) (bit : Bool) → AreWords count words → i < count → OneBit words new i bit → AreWords count new
 AreWords-one count words new i bit h below one = record {
@@ -116,14 +120,13 @@ set_in-all count words new h len each =
 pub AreWords-all : (count : ℕ) (words new : List ℕ) → AreWords count words → length new ≡ length words → ((k : ℕ) → bit_in new k ≡ nat_lt k count) → AreWords count new
 AreWords-all count words new h len each = record { short = h.short; enough = len ∙ h.enough; spare = λ k past. each k ∙ le-ltb k count past }
 
--- words that are all 0 hold no number
-pub set_in-none : (count words : ℕ) → words ≡ (count + 63) / 64 → set_in count (replicate words 0) ≡ no_members count
-set_in-none count words enough =
-    same_set_in count (replicate words 0) (no_members count) (length-replicate words 0 ∙ enough) (length-replicate count false)
-    (λ k inside. bit_in-zeros words k ∙ sym (has_member-no_members count k))
+-- words of which no bit is set hold no number
+pub set_in-none : (count : ℕ) (words : List ℕ) → length words ≡ (count + 63) / 64 → ((k : ℕ) → bit_in words k ≡ false) → set_in count words ≡ no_members count
+set_in-none count words enough none =
+    same_set_in count words (no_members count) enough (length-replicate count false) (λ k inside. none k ∙ sym (has_member-no_members count k))
 
-pub AreWords-none : (count words : ℕ) → count < 2 ^ 32 → words ≡ (count + 63) / 64 → AreWords count (replicate words 0)
-AreWords-none count words short enough = record { short = short; enough = length-replicate words 0 ∙ enough; spare = λ k past. bit_in-zeros words k }
+pub AreWords-none : (count : ℕ) (words : List ℕ) → count < 2 ^ 32 → length words ≡ (count + 63) / 64 → ((k : ℕ) → bit_in words k ≡ false) → AreWords count words
+AreWords-none count words short enough none = record { short = short; enough = enough; spare = λ k past. none k }
 
 -- the next bit is the next member
 pub next_member : (count : ℕ) (words : List ℕ) (i : ℕ) (next : Option ℕ) → AreWords count words → IsNextBit words i next → IsNextMember (set_in count words) i next × IfSome next (λ m. m < count)

@@ -1,3 +1,4 @@
 pub mod Held
 pub mod Filled
 pub mod FirstBits
+pub mod Marked

@@ -1,10 +1,13 @@
 //! Sets of numbers below a length, as a synchronisation notes which vertices changed.
 //!
 //! An [`UpdateBits`] takes its memory when it is made, and none after that. It has one bit for each number,
-//! in words of 64 bits. Its contracts speak of the set alone: a list of truth values that is true exactly
+//! in words of 64 bits, and one bit more for each word, so that a large set with few members is gone
+//! through, and emptied, in few steps. Its contracts speak of the set alone: a list of truth values that is true exactly
 //! at the members.
 #![tactic(auto)]
 
+mod marks;
+mod spans;
 mod update_bits;
 mod words;
 

@@ -13,28 +13,31 @@ ghost use Rattle.list_laws.specs.Members.{
   IsNextMember,
 };
 
-use crate::words::{
-    clear_bit, count_bits, fill_bits, next_bit, set_bit, test_bit, word_of_nth, words_for,
-};
+use crate::marks::{clear_marked, next_marked};
+use crate::words::{clear_bit, count_bits, fill_bits, set_bit, test_bit, word_of_nth, words_for};
 use std::alloc::{AllocError, Global};
 use std::marker::Model;
 
 /// A set of numbers below a length that stays as it was made.
+///
+/// The marks have one bit for each word. A word with a member has its mark, so a search passes over 64
+/// words without one at a time. A word keeps its mark when its last member goes; `clear_all` takes it away.
 #[derive(Drop)]
 pub struct UpdateBits {
     count: u32,
     words: Vec<u64>,
+    marks: Vec<u64>,
 }
 
 impl Model for UpdateBits {
     ghost use Rattle.std.specs.Prelude.{Bool, List};
-    ghost use Rattle.update_bits.specs.Words.{set_in, AreWords};
+    ghost use Rattle.update_bits.specs.Words.{set_in, AreWords, AreMarks};
 
     ghost Value = { List Bool };
 
     ghost view = { λ s. set_in s.count s.words.items };
 
-    ghost invariant = { λ s. AreWords s.count s.words.items };
+    ghost invariant = { λ s. AreWords s.count s.words.items × AreMarks s.words.items s.marks.items };
 }
 
 impl UpdateBits {
@@ -42,9 +45,11 @@ impl UpdateBits {
     pub fn new(alloc: Global, n: u32) -> Result<UpdateBits, AllocError>
         ensures { IfOk result (λ bits. bits ≡ no_members n) }
     {
+        let words = words_for(n);
         Ok(UpdateBits {
             count: n,
-            words: vec![in alloc; 0; words_for(n)]?,
+            words: vec![in alloc; 0; words]?,
+            marks: vec![in alloc; 0; words_for(words as u32)]?,
         })
     }
 
@@ -76,6 +81,7 @@ impl UpdateBits {
         ensures { self.new ≡ with_member self.old i }
     {
         set_bit(&mut self.words, i);
+        set_bit(&mut self.marks, i / 64);
     }
 
     /// Takes `i`, a number below the length, out of the set. The other numbers stay as they are.
@@ -101,13 +107,14 @@ impl UpdateBits {
         ensures { self.new ≡ all_members (length self.old) }
     {
         fill_bits(&mut self.words, self.count);
+        fill_bits(&mut self.marks, self.words.len() as u32);
     }
 
     /// Takes every number out of the set.
     pub fn clear_all(&mut self)
         ensures { self.new ≡ no_members (length self.old) }
     {
-        self.words.fill(0);
+        clear_marked(&mut self.words, &mut self.marks);
     }
 
     /// The least member that is at least `i`, and None exactly where there is none. `i` is at most
@@ -117,7 +124,7 @@ impl UpdateBits {
         ensures next { IsNextMember self.now i result }
         ensures below { IfSome result (λ m. m < length self.now) }
     {
-        next_bit(&self.words, i)
+        next_marked(&self.words, &self.marks, i)
     }
 
     /// The member at `place`, counted from 0 among the members by rising number. `place` is below their count.

@@ -1,7 +1,7 @@
 //! The bits of words of 64 bits.
 ghost use Rattle.std.specs.Prelude.{◌≡◌, ◌≢◌, ℕ, ◌+◌, ◌*◌, ◌/◌, ◌<◌, ◌≤◌, ◌^◌, true, false, length, take, sum_by, count_by, count_ones, nat_lt};
 ghost use Rattle.list_laws.specs.Bits.{unpacked, bit_in};
-ghost use Rattle.update_bits.specs.Words.{IsNextBit};
+ghost use Rattle.update_bits.specs.Words.{IsNextBit, IsNextInWord};
 
 /// How many words hold a bit for each of `count` numbers.
 pub(crate) fn words_for(count: u32) -> usize
@@ -64,6 +64,18 @@ pub(crate) fn count_bits(words: &[u64]) -> u64
     sum_ones(words)
 }
 
+/// The first bit of its own word that is set, from bit `i` on.
+pub(crate) fn next_in_word(words: &[u64], i: u32) -> Option<u32>
+    requires { i / 64 < length words.now }
+    ensures { IsNextInWord words.now i result }
+{
+    let rest = words[(i / 64) as usize] >> (i % 64);
+    if rest == 0 {
+        return None;
+    }
+    Some(i + rest.trailing_zeros())
+}
+
 /// The first bit that is set, from bit `i` on.
 pub(crate) fn next_bit(words: &[u64], i: u32) -> Option<u32>
     requires { length words.now ≤ 2 ^ 26 }
@@ -73,9 +85,8 @@ pub(crate) fn next_bit(words: &[u64], i: u32) -> Option<u32>
     if place >= words.len() {
         return None;
     }
-    let rest = words[place] >> (i % 64);
-    if rest != 0 {
-        return Some(i + rest.trailing_zeros());
+    if let Some(next) = next_in_word(words, i) {
+        return Some(next);
     }
     for later in place + 1..words.len() {
         if words[later] != 0 {

@@ -1,18 +1,10 @@
 use Rattle.std.proofs.Common.{◌≡◌, ◌*◌, ◌/◌, arith, inl, inr}
 use Rattle.std.proofs.lemmas.Bool.{cases_lt}
-use Rattle.update_bits.proofs.FirstBits.{first_from, first_later, none_from, none_in_word}
+use Rattle.update_bits.proofs.FirstBits.{first_later, none_in_word}
 use Rattle.update_bits.proofs.words.next_bit.Goals as goal
 
-pub overflow_add-result : goal.overflow_add-result
-overflow_add-result c =
-    let found = first_from c.args.words.now c.args.i (omega (arith, c.type_inv.words (c.args.i / 64))) (omega arith) in
-    omega (arith, found.0)
-
-pub returns-then-rest-ne0 : goal.returns-then-rest-ne0
-returns-then-rest-ne0 c = (first_from c.args.words.now c.args.i (omega (arith, c.type_inv.words (c.args.i / 64))) (omega arith)).1
-
 pub loop-later-init : goal.loop-later-init
-loop-later-init c k since before = none_from c.args.words.now c.args.i k (omega arith) since (omega arith)
+loop-later-init c k since before = c.in_default.ensures k since (omega arith)
 
 pub loop-later-preserved : goal.loop-later-preserved
 loop-later-preserved c k since before =

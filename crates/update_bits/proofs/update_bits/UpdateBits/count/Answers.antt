@@ -10,7 +10,7 @@ pub returns : goal.returns
 returns c =
     c.count_bits.ensures
     ∙ ap (λ words. count_by (λ b. b) (unpacked 64 words)) c.deref.ensures.value
-    ∙ count-unpacked c.self.inside.count c.self.inside.words.items c.self.invariant
+    ∙ count-unpacked c.self.inside.count c.self.inside.words.items c.self.invariant.0
     ∙ ap count_of c.self.view_is
 
 pub overflow_cast-result : goal.overflow_cast-result
@@ -18,6 +18,6 @@ overflow_cast-result c =
     let counted : c.count_bits.result ≡ count_of c.args.self.now =
     c.count_bits.ensures
     ∙ ap (λ words. count_by (λ b. b) (unpacked 64 words)) c.deref.ensures.value
-    ∙ count-unpacked c.self.inside.count c.self.inside.words.items c.self.invariant
+    ∙ count-unpacked c.self.inside.count c.self.inside.words.items c.self.invariant.0
     ∙ ap count_of c.self.view_is in
-    omega (arith, counted, count_of-le-length c.args.self.now, ap length c.self.view_is, length-set_in c.self.inside.count c.self.inside.words.items c.self.invariant.enough, c.self.invariant.short)
+    omega (arith, counted, count_of-le-length c.args.self.now, ap length c.self.view_is, length-set_in c.self.inside.count c.self.inside.words.items c.self.invariant.0.enough, c.self.invariant.0.short)

@@ -11,14 +11,14 @@ use Rattle.update_bits.proofs.update_bits.UpdateBits.nth.Goals as goal
 pub word_of_nth-word-requires-clause-within : goal.word_of_nth-word-requires-clause-within
 word_of_nth-word-requires-clause-within c =
     let all : count_by (λ b. b) (unpacked 64 c.deref.result.now) ≡ count_of c.args.self.now
-    = ap (λ words. count_by (λ b. b) (unpacked 64 words)) c.deref.ensures.value ∙ count-unpacked c.self.inside.count c.self.inside.words.items c.self.invariant ∙ ap count_of c.self.view_is in
+    = ap (λ words. count_by (λ b. b) (unpacked 64 words)) c.deref.ensures.value ∙ count-unpacked c.self.inside.count c.self.inside.words.items c.self.invariant.0 ∙ ap count_of c.self.view_is in
     omega (arith, all, c.requires)
 
 pub nth_since-requires-clause-start : goal.nth_since-requires-clause-start
 nth_since-requires-clause-start c =
     let words : List ℕ = c.self.inside.words.items in
-    let front = members_before c.self.inside.count c.word_of_nth-word.result.0 words c.self.invariant (omega (arith, c.word_of_nth-word.ensures.word, ap length c.deref.ensures.value)) in
-    omega (arith, front.0, ap length c.self.view_is, length-set_in c.self.inside.count words c.self.invariant.enough)
+    let front = members_before c.self.inside.count c.word_of_nth-word.result.0 words c.self.invariant.0 (omega (arith, c.word_of_nth-word.ensures.word, ap length c.deref.ensures.value)) in
+    omega (arith, front.0, ap length c.self.view_is, length-set_in c.self.inside.count words c.self.invariant.0.enough)
 
 -- the members before the word, those from it on, and how many come before
 split : (count word left place : ℕ) (words seen : List ℕ) (bits : List Bool) → AreWords count words → set_in count words ≡ bits → seen ≡ words → word < length seen
@@ -36,7 +36,7 @@ nth_since-requires-clause-place c =
     let word : ℕ = c.word_of_nth-word.result.0 in
     let left : ℕ = c.word_of_nth-word.result.1 in
     let bits : List Bool = c.args.self.now in
-    let parts = split c.self.inside.count word left c.args.place c.self.inside.words.items c.deref.result.now bits c.self.invariant c.self.view_is c.deref.ensures.value c.word_of_nth-word.ensures.word c.word_of_nth-word.ensures.before in
+    let parts = split c.self.inside.count word left c.args.place c.self.inside.words.items c.deref.result.now bits c.self.invariant.0 c.self.view_is c.deref.ensures.value c.word_of_nth-word.ensures.word c.word_of_nth-word.ensures.before in
     omega (arith, c.requires, parts.1, ap length parts.0, length-append (members (take (word * 64) bits)) (members_since bits (word * 64)))
 
 pub returns : goal.returns
@@ -44,7 +44,7 @@ returns c =
     let word : ℕ = c.word_of_nth-word.result.0 in
     let left : ℕ = c.word_of_nth-word.result.1 in
     let bits : List Bool = c.args.self.now in
-    let parts = split c.self.inside.count word left c.args.place c.self.inside.words.items c.deref.result.now bits c.self.invariant c.self.view_is c.deref.ensures.value c.word_of_nth-word.ensures.word c.word_of_nth-word.ensures.before in
+    let parts = split c.self.inside.count word left c.args.place c.self.inside.words.items c.deref.result.now bits c.self.invariant.0 c.self.view_is c.deref.ensures.value c.word_of_nth-word.ensures.word c.word_of_nth-word.ensures.before in
     ap (λ all. slice_get all c.args.place) (sym parts.0)
     ∙ ap (slice_get (members (take (word * 64) bits) ++ members_since bits (word * 64))) (sym parts.1)
     ∙ slice_get-append_right (members (take (word * 64) bits)) (members_since bits (word * 64)) left
@@ -52,4 +52,4 @@ returns c =
 
 pub nth_since-requires-clause-short : goal.nth_since-requires-clause-short
 nth_since-requires-clause-short c =
-    omega (arith, ap length c.self.view_is, length-set_in c.self.inside.count c.self.inside.words.items c.self.invariant.enough, c.self.invariant.short)
+    omega (arith, ap length c.self.view_is, length-set_in c.self.inside.count c.self.inside.words.items c.self.invariant.0.enough, c.self.invariant.0.short)
