@@ -2,3 +2,4 @@ pub mod Held
 pub mod Filled
 pub mod FirstBits
 pub mod Marked
+pub mod Cleared

@@ -10,12 +10,17 @@ use Rattle.update_bits.proofs.FirstBits.{none_in_word}
 
 -- ---- what a call makes of words and marks
 
--- where a bit was cleared the marks may stay
-pub AreMarks-cleared : (words new marks : List ℕ) (i : ℕ) → AreMarks words marks → OneBit words new i false → AreMarks new marks
-AreMarks-cleared words new marks i h one = record {
-  places = subst (λ n. AreWords n marks) (sym one.len) h.places;
-  marked = λ k unmarked. elim (cases_eq k i) [ inl same ↦ ap (bit_in new) same ∙ one.at | inr other ↦ one.others k other ∙ h.marked k unmarked ];
+-- where no bit was set the marks may stay
+pub AreMarks-fewer : (words new marks : List ℕ) → AreMarks words marks → length new ≡ length words → ((k : ℕ) → bit_in words k ≡ false → bit_in new k ≡ false) → AreMarks new marks
+AreMarks-fewer words new marks h len stays = record {
+  places = subst (λ n. AreWords n marks) (sym len) h.places;
+  marked = λ k unmarked. stays k (h.marked k unmarked);
 }
+
+-- where one bit was cleared
+pub AreMarks-cleared : (words new marks : List ℕ) (i : ℕ) → AreMarks words marks → OneBit words new i false → AreMarks new marks
+AreMarks-cleared words new marks i h one =
+    AreMarks-fewer words new marks h one.len (λ k none. elim (cases_eq k i) [ inl same ↦ ap (bit_in new) same ∙ one.at | inr other ↦ one.others k other ∙ none ])
 
 -- where a bit was set its word has its mark
 pub AreMarks-set : (words new marks now : List ℕ) (i : ℕ) → AreMarks words marks → i / 64 < length words → OneBit words new i true → OneBit marks now (i / 64) true → AreMarks new now

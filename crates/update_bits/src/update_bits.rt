@@ -1,5 +1,5 @@
 //! A set of numbers below a length.
-ghost use Rattle.std.specs.Prelude.{◌≡◌, ◌<◌, ◌≤◌, ◌^◌, length, drop, slice_get, All, Some, IfOk, IfSome};
+ghost use Rattle.std.specs.Prelude.{◌≡◌, ◌<◌, ◌≤◌, ◌^◌, ◌&&◌, ℕ, not, nat_le, nat_lt, length, drop, slice_get, All, Some, IfOk, IfSome};
 ghost use Rattle.list_laws.specs.Members.{
   has_member,
   no_members,
@@ -14,6 +14,7 @@ ghost use Rattle.list_laws.specs.Members.{
 };
 
 use crate::marks::{clear_marked, next_marked};
+use crate::spans::clear_bits;
 use crate::words::{clear_bit, count_bits, fill_bits, set_bit, test_bit, word_of_nth, words_for};
 use std::alloc::{AllocError, Global};
 use std::marker::Model;
@@ -102,6 +103,18 @@ impl UpdateBits {
         }
     }
 
+    /// Takes every number from `start` up to, but not including, `end` out of the set. The other numbers stay
+    /// as they are. `end` is at most the length.
+    pub fn clear_between(&mut self, start: u32, end: u32)
+        requires order { start ≤ end }
+        requires within { end ≤ length self.old }
+        ensures length { length self.new ≡ length self.old }
+        ensures members { (l : ℕ) → has_member self.new l
+            ≡ (has_member self.old l && not (nat_le start l && nat_lt l end)) }
+    {
+        clear_bits(&mut self.words, start, end);
+    }
+
     /// Makes each number below the length a member.
     pub fn set_all(&mut self)
         ensures { self.new ≡ all_members (length self.old) }
@@ -188,8 +201,26 @@ mod tests {
         assert_eq!(rt; (bits.count(), bits.next_from(0)), (1, Some(4)));
         bits.set_all();
         assert_eq!(rt; (bits.count(), bits.next_from(5)), (5, None));
+        bits.clear_between(1, 3);
+        assert_eq!(rt; (bits.count(), bits.next_from(1)), (3, Some(3)));
         bits.clear_all();
         assert_eq!(rt; (bits.len(), bits.count(), bits.next_from(0)), (5, 0, None));
+        Ok(())
+    }
+
+    #[test]
+    fn few_members_of_a_large_set_are_found(rt: HostRuntime) -> Result<(), Fail> {
+        let mut bits = UpdateBits::new(rt.alloc(), 20_000)?;
+        bits.set(70);
+        bits.set(19_999);
+        assert_eq!(rt;
+            (bits.next_from(0), bits.next_from(71)),
+            (Some(70), Some(19_999))
+        );
+        bits.clear_between(60, 19_999);
+        assert_eq!(rt; (bits.count(), bits.next_from(0)), (1, Some(19_999)));
+        bits.clear_all();
+        assert_eq!(rt; bits.next_from(0), None);
         Ok(())
     }
 
