@@ -1,0 +1,100 @@
+-- Numbers in a row: how a list that rises is told to be one, and what is left of a set without them.
+use Rattle.std.proofs.Common.{◌≡◌, ◌<◌, ◌≤◌, ◌+◌, ◌-◌, ℕ, zero, suc, Bool, true, false, List, [], ◌∷◌, length, get_or, refl, sym, ap, ◌∙◌, arith, inl, inr}
+use Rattle.std.specs.Prelude.{nat_le, nat_lt, ◌&&◌, not}
+use Rattle.std.specs.List.{range_with_len}
+use Rattle.std.specs.List.Sorted.{IsStrictlyIncreasing}
+use Rattle.std.proofs.Math.Bool.{and-false, and-true}
+use Rattle.std.proofs.lemmas.Bool.{cases_eq, cases_lt, lt-ltb, le-ltb, lt-leb, le-leb}
+use Rattle.std.proofs.lemmas.List.{length-set}
+use Rattle.list_laws.specs.Members.{has_member, without_member, without_all}
+use Rattle.list_laws.specs.Rising.{Rises}
+use Rattle.list_laws.proofs.Members.{same_set, has_member-without_same, has_member-without_other}
+use Rattle.list_laws.proofs.Rising.{Rises-from_increasing}
+
+-- ---- lists that rise
+
+-- the last number is at least as far above the first as there are numbers behind that
+last_above : (x : ℕ) (xs : List ℕ) → Rises (x + 1) xs → x + length xs ≤ get_or (x ∷ xs) (length xs) 0
+last_above x [] r = omega arith
+last_above x (y ∷ ys) r = let rest : y + length ys ≤ get_or (y ∷ ys) (length ys) 0 = last_above y ys r.1 in omega (arith, r.0)
+
+-- where it is no further, each number follows on the one before
+row_from : (x : ℕ) (xs : List ℕ) → Rises (x + 1) xs → get_or (x ∷ xs) (length xs) 0 ≡ x + length xs → x ∷ xs ≡ range_with_len x (suc (length xs))
+row_from x [] r e = refl
+row_from x (y ∷ ys) r e =
+    let above : y + length ys ≤ get_or (y ∷ ys) (length ys) 0 = last_above y ys r.1 in
+    let last : get_or (y ∷ ys) (length ys) 0 ≡ x + suc (length ys) = e in
+    let next : y ≡ x + 1 = omega (arith, r.0) in
+    let rest : y ∷ ys ≡ range_with_len y (suc (length ys)) = row_from y ys r.1 (omega arith) in
+    ap (λ l. x ∷ l) (rest ∙ ap (λ n. range_with_len n (suc (length ys))) next)
+
+-- the first is at most the last
+pub first_last : (xs : List ℕ) → IsStrictlyIncreasing xs → 0 < length xs → get_or xs 0 0 ≤ get_or xs (length xs - 1) 0
+first_last [] rise some = absurd (omega arith)
+first_last (x ∷ xs) rise some =
+    let rises : Rises 0 (x ∷ xs) = Rises-from_increasing 0 (x ∷ xs) rise (λ some. omega arith) in
+    let above : x + length xs ≤ get_or (x ∷ xs) (length xs) 0 = last_above x xs rises.1 in
+    let place : suc (length xs) - 1 ≡ length xs = omega arith in
+    rw place (omega arith)
+
+-- their difference tells a row
+pub row_of : (xs : List ℕ) → IsStrictlyIncreasing xs → 0 < length xs → get_or xs (length xs - 1) 0 - get_or xs 0 0 ≡ length xs - 1 → xs ≡ range_with_len (get_or xs 0 0) (length xs)
+row_of [] rise some e = absurd (omega arith)
+row_of (x ∷ xs) rise some e =
+    let rises : Rises 0 (x ∷ xs) = Rises-from_increasing 0 (x ∷ xs) rise (λ some. omega arith) in
+    let above : x + length xs ≤ get_or (x ∷ xs) (length xs) 0 = last_above x xs rises.1 in
+    let place : suc (length xs) - 1 ≡ length xs = omega arith in
+    let apart : get_or (x ∷ xs) (length xs) 0 - x ≡ length xs = rw place at e in
+    row_from x xs rises.1 (omega arith)
+
+-- ---- a set without numbers in a row
+
+length-without_all : (bits : List Bool) (numbers : List ℕ) → length (without_all bits numbers) ≡ length bits
+length-without_all bits [] = refl
+length-without_all bits (x ∷ numbers) = length-without_all (without_member bits x) numbers ∙ length-set bits x false
+
+-- a number outside the row stays
+outside : (first count l : ℕ) (bits : List Bool) → (first ≤ l → first + count ≤ l) → has_member (without_all bits (range_with_len first count)) l ≡ has_member bits l
+outside first zero l bits apart = refl
+outside first (suc count) l bits apart =
+    outside (first + 1) count l (without_member bits first) (λ since. let past : first + suc count ≤ l = apart (omega arith) in omega arith)
+    ∙ has_member-without_other bits first l (λ e. let past : first + suc count ≤ l = apart (omega arith) in omega arith)
+
+-- a number of the row is out
+within : (first count l : ℕ) (bits : List Bool) → first ≤ l → l < first + count → first + count ≤ length bits → has_member (without_all bits (range_with_len first count)) l ≡ false
+within first zero l bits since until fits = absurd (omega arith)
+within first (suc count) l bits since until fits =
+    elim (cases_eq l first) [
+      | inl same ↦
+          outside (first + 1) count l (without_member bits first) (λ later. absurd (omega arith))
+          ∙ ap (has_member (without_member bits first)) same
+          ∙ has_member-without_same bits first (omega arith)
+      | inr other ↦ within (first + 1) count l (without_member bits first) (omega arith) (omega arith) (omega (arith, length-set bits first false))
+    ]
+
+-- what has all other numbers, and none of the row, is the set without the row
+pub cleared_row : (bits new : List Bool) (numbers : List ℕ) (first count end : ℕ) → numbers ≡ range_with_len first count → end ≡ first + count → end ≤ length bits → length new ≡ length bits
+    → ((l : ℕ) → has_member new l ≡ (has_member bits l && not (nat_le first l && nat_lt l end))) → new ≡ without_all bits numbers
+cleared_row bits new numbers first count end row last fits len each =
+    same_set new (without_all bits numbers) (len ∙ sym (length-without_all bits numbers)) (λ l inside. each l ∙ told l ∙ sym (ap (λ ns. has_member (without_all bits ns) l) row))
+  where
+    told : (l : ℕ) → (has_member bits l && not (nat_le first l && nat_lt l end)) ≡ has_member (without_all bits (range_with_len first count)) l
+    told l =
+        elim (cases_lt l first) [
+          | inl low ↦
+              ap (λ b. has_member bits l && not (b && nat_lt l end)) (lt-leb first l low)
+              ∙ and-true (has_member bits l)
+              ∙ sym (outside first count l bits (λ since. absurd (omega arith)))
+          | inr since ↦ elim (cases_lt l end) [
+            | inl until ↦
+                ap (λ b. has_member bits l && not (nat_le first l && b)) (lt-ltb l end until)
+                ∙ ap (λ b. has_member bits l && not (b && true)) (le-leb first l since)
+                ∙ and-false (has_member bits l)
+                ∙ sym (within first count l bits since (omega arith) (omega arith))
+            | inr high ↦
+                ap (λ b. has_member bits l && not (nat_le first l && b)) (le-ltb l end high)
+                ∙ ap (λ b. has_member bits l && not (b && false)) (le-leb first l since)
+                ∙ and-true (has_member bits l)
+                ∙ sym (outside first count l bits (λ _. omega arith))
+          ]
+        ]
