@@ -1,5 +1,5 @@
 -- What assembling gives: the fields are those of the local graph of the share.
-use Rattle.std.proofs.Common.{◌≡◌, ◌↔◌, ℕ, zero, suc, ◌+◌, ◌-◌, ◌<◌, ◌≤◌, true, false, Bool, cond, not, ◌&&◌, ◌||◌, ◌==◌, List, [], ◌∷◌, ◌++◌, length, map, take, drop, slice_index, slice_index_or, refl, sym, ◌∙◌, ap, arith, inl, inr, subst, length-append, append-nil}
+use Rattle.std.proofs.Common.{◌≡◌, ◌↔◌, ℕ, ◌+◌, ◌-◌, ◌<◌, ◌≤◌, true, false, Bool, cond, not, ◌&&◌, ◌||◌, ◌==◌, List, [], ◌∷◌, ◌++◌, length, map, take, drop, slice_index, slice_index_or, refl, sym, ◌∙◌, ap, arith, inl, inr, subst, length-append, append-nil}
 use Rattle.std.specs.List.{All, filter, list_any, range_with_len}
 use Rattle.std.specs.List.Sorted.{IsStrictlyIncreasing}
 use Rattle.std.proofs.lemmas.Bool.{and_parts, cases_eq, eq-eqb, eqb-true, ne_eqb, or_right}
@@ -11,6 +11,7 @@ use Rattle.std.proofs.lemmas.List.Kept.{IsStrictlyIncreasing-filter}
 use Rattle.std.proofs.lemmas.List.FromFn.{length-range_with_len}
 use Rattle.std.proofs.lemmas.Option.{slice_get-get_or}
 use Rattle.list_laws.specs.Among.{is_among, place_of}
+use Rattle.list_laws.specs.Members.{has_member}
 use Rattle.graph_model.specs.Arcs.{Arc, out_arc}
 use Rattle.graph_model.specs.Graph.{IsWithin, IsBySource}
 use Rattle.graph_model.specs.declared.edge.Edge.{Edge}
@@ -23,12 +24,13 @@ use Rattle.proxy_graph.specs.Heads.{lid_of, vertex_at}
 use Rattle.proxy_graph.specs.Keyed.{with_key}
 use Rattle.proxy_graph.specs.Runs.{KeepsArcs, arcs_at, count_at, start_at}
 use Rattle.proxy_graph.specs.Sides.{Side, Out, Back, AreKeyed, AreSorted, AreTogether, arc_of, arc_pair, edge_at, key_of, end_of}
-use Rattle.proxy_graph.specs.Numbering.{is_hosted, is_end, has_mark, AreMarks, AreNumbered, IsLidOf}
+use Rattle.proxy_graph.specs.Numbering.{is_hosted, is_end, is_mirrored, AreMarks, AreNumbered, IsLidOf}
 use Rattle.proxy_graph.specs.Kept.{edge_from, edges_of, share_of, proxies_of, Keeps, IsKept}
 use Rattle.proxy_graph.specs.declared.local_graph.LocalGraph.TheInside.{Inside}
 use Rattle.proxy_graph.specs.declared.arcs.Arcs.{Arcs}
 use Rattle.proxy_graph.proofs.Keyed.{picked_pass}
 use Rattle.proxy_graph.proofs.NumberingSteps.{hosted_is}
+use Rattle.proxy_graph.proofs.Ranges.{picked_same, picked_none, picked_all, range_parts}
 use Rattle.proxy_graph.proofs.Lids.{hosted_true, hosted_before, hosted_behind, lid_is_place, place_is, place_none, lid_among}
 
 -- ---- truth values
@@ -45,32 +47,6 @@ denied true h = absurd (cc)
 denied false h = refl
 
 -- ---- what tests pick from a range
-
-picked_same : (p q : ℕ → Bool) (first count : ℕ) → ((v : ℕ) → first ≤ v → v < first + count → p v ≡ q v) → filter p (range_with_len first count) ≡ filter q (range_with_len first count)
-picked_same p q first zero same = refl
-picked_same p q first (suc count) same =
-    ap (λ b. cond b (first ∷ filter p (range_with_len (first + 1) count)) (filter p (range_with_len (first + 1) count))) (same first (omega arith) (omega arith))
-    ∙ ap (λ xs. cond (q first) (first ∷ xs) xs) (picked_same p q (first + 1) count (λ v low high. same v (omega arith) (omega arith)))
-
-picked_none : (p : ℕ → Bool) (first count : ℕ) → ((v : ℕ) → first ≤ v → v < first + count → p v ≡ false) → filter p (range_with_len first count) ≡ []
-picked_none p first zero none = refl
-picked_none p first (suc count) none =
-    ap (λ b. cond b (first ∷ filter p (range_with_len (first + 1) count)) (filter p (range_with_len (first + 1) count))) (none first (omega arith) (omega arith))
-    ∙ picked_none p (first + 1) count (λ v low high. none v (omega arith) (omega arith))
-
-picked_all : (p : ℕ → Bool) (first count : ℕ) → ((v : ℕ) → first ≤ v → v < first + count → p v ≡ true) → filter p (range_with_len first count) ≡ range_with_len first count
-picked_all p first zero all = refl
-picked_all p first (suc count) all =
-    ap (λ b. cond b (first ∷ filter p (range_with_len (first + 1) count)) (filter p (range_with_len (first + 1) count))) (all first (omega arith) (omega arith))
-    ∙ ap (λ xs. first ∷ xs) (picked_all p (first + 1) count (λ v low high. all v (omega arith) (omega arith)))
-
--- a range in two parts
-range_parts : (first m n : ℕ) → range_with_len first (m + n) ≡ range_with_len first m ++ range_with_len (first + m) n
-range_parts first zero n = ap (λ (k : ℕ). range_with_len first k) (let same : 0 + n ≡ n = omega arith in same) ∙ ap (λ (k : ℕ). range_with_len k n) (let same : first ≡ first + 0 = omega arith in same)
-range_parts first (suc m) n =
-    ap (λ (k : ℕ). range_with_len first k) (let same : suc m + n ≡ suc (m + n) = omega arith in same)
-    ∙ ap (λ xs. first ∷ xs) (range_parts (first + 1) m n)
-    ∙ ap (λ (k : ℕ). first ∷ (range_with_len (first + 1) m ++ range_with_len k n)) (let same : first + 1 + m ≡ first + suc m = omega arith in same)
 
 -- a test that is true of a row alone picks that row
 picked_row : (p : ℕ → Bool) (first count nodes : ℕ) → first + count ≤ nodes → ((v : ℕ) → v < nodes → p v ≡ is_hosted first count v) → filter p (range_with_len 0 nodes) ≡ range_with_len first count
@@ -100,14 +76,6 @@ ends_are (edge ∷ edges) v = step (edge.src == v) (edge.dst == v) (list_any (λ
     step false true false y r is = refl
     step false false x y r is = is
 
--- a mark tells an end
-mark_is : (nodes : ℕ) (edges : List Edge) (marks : List ℕ) → AreMarks nodes edges marks → (v : ℕ) → v < nodes → has_mark marks v ≡ is_end edges v
-mark_is nodes edges marks are v within = ap (λ (m : ℕ). not (m == 0)) (are.marks_are v within) ∙ step (is_end edges v)
-  where
-    step : (b : Bool) → not (cond b 1 0 == 0) ≡ b
-    step true = refl
-    step false = refl
-
 -- both ends of an edge are ends
 record HasEnds (edges : List Edge) (edge : Edge) : Type 0 where
   source : is_end edges edge.src ≡ true
@@ -123,7 +91,7 @@ have_ends edges k d within =
 
 -- ---- the proxies
 
-module _ (share : Share) (first count : ℕ) (marks table mirrors : List ℕ)
+module _ (share : Share) (first count : ℕ) (marks : List Bool) (table mirrors : List ℕ)
     (vertices : (v : ℕ) → v < nodes_of share → (slice_index share.masters v ≡ share.host) ↔ ((first ≤ v) × (v < first + count)))
     (row : first + count ≤ nodes_of share)
     (marked : AreMarks (nodes_of share) share.edges marks)
@@ -140,10 +108,10 @@ module _ (share : Share) (first count : ℕ) (marks table mirrors : List ℕ)
 
   pub mirrors_are : mirrors_here share ≡ mirrors
   mirrors_are =
-      picked_same (is_mirror (seen Outward share) share.host) (λ v. not (is_hosted first count v) && has_mark marks v) 0 (nodes_of share) (λ v low high.
+      picked_same (is_mirror (seen Outward share) share.host) (is_mirrored first count marks) 0 (nodes_of share) (λ v low high.
       let within : v < nodes_of share = omega arith in
       ap (λ b. not b && (is_readable (seen Outward share) share.host v || is_writable (seen Outward share) share.host v)) (master_here v within)
-      ∙ ap (λ b. not (is_hosted first count v) && b) (sym (mark_is (nodes_of share) share.edges marks marked v within ∙ ends_are share.edges v)))
+      ∙ ap (λ b. not (is_hosted first count v) && b) (sym (marked.marks_are v within ∙ ends_are share.edges v)))
       ∙ sym numbered.mirrors_are
 
   pub proxies_are : proxies_here share ≡ range_with_len first count ++ mirrors
@@ -157,9 +125,9 @@ module _ (share : Share) (first count : ℕ) (marks table mirrors : List ℕ)
   mirrors_apart : All (λ v. is_hosted first count v ≡ false) mirrors
   mirrors_apart =
       let P : List ℕ → Type 0 = λ xs. All (λ v. is_hosted first count v ≡ false) xs in
-      let test : ℕ → Bool = λ v. not (is_hosted first count v) && has_mark marks v in
+      let test : ℕ → Bool = is_mirrored first count marks in
       subst P (sym numbered.mirrors_are)
-      (All-weaker (λ v. test v ≡ true) (λ v. is_hosted first count v ≡ false) (λ v passes. denied (is_hosted first count v) (and_parts (not (is_hosted first count v)) (has_mark marks v) passes).0) (filter test (range_with_len 0 (nodes_of share)))
+      (All-weaker (λ v. test v ≡ true) (λ v. is_hosted first count v ≡ false) (λ v passes. denied (is_hosted first count v) (and_parts (not (is_hosted first count v)) (has_member marks v) passes).0) (filter test (range_with_len 0 (nodes_of share)))
       (picked_pass test (range_with_len 0 (nodes_of share))))
 
   -- a proxy's number is its place
@@ -172,7 +140,7 @@ module _ (share : Share) (first count : ℕ) (marks table mirrors : List ℕ)
   pub end_lid : (v : ℕ) → v < nodes_of share → is_end share.edges v ≡ true → IsLidOf (proxies_here share) v (slice_index table v)
   end_lid v within end =
       let P : List ℕ → Type 0 = λ xs. IsLidOf xs v (slice_index table v) in
-      subst P (sym proxies_are) (numbered.numbers v within (or_right (is_hosted first count v) (has_mark marks v) (mark_is (nodes_of share) share.edges marks marked v within ∙ end)))
+      subst P (sym proxies_are) (numbered.marked v within (marked.marks_are v within ∙ end))
 
 -- the table has the place of both ends of an edge
 pub record IsNamed (share : Share) (table : List ℕ) (edge : Edge) : Type 0 where
@@ -309,7 +277,7 @@ module _ (share : Share) (arcs : Arcs) (only : OnlyPlaces share) (keeps : KeepsA
 abbrev pub share_with : (host hosts : ℕ) (masters : List ℕ) (edges : List Edge) → Share
 share_with host hosts masters edges = record { host = host; hosts = hosts; masters = masters; edges = edges }
 
-module _ (share : Share) (first count : ℕ) (marks table mirrors : List ℕ)
+module _ (share : Share) (first count : ℕ) (marks : List Bool) (table mirrors : List ℕ)
     (within : All (IsWithin (nodes_of share)) share.edges)
     (vertices : (v : ℕ) → v < nodes_of share → (slice_index share.masters v ≡ share.host) ↔ ((first ≤ v) × (v < first + count)))
     (row : first + count ≤ nodes_of share)
@@ -406,13 +374,13 @@ module _ (share : Share) (first count : ℕ) (marks table mirrors : List ℕ)
         let P : Share → Type 0 = λ seen. Keeps seen graph in
         subst P (sym stands) built
 
--- what the calls gave, as the lemmas take it
-pub numbered_is : (first count nodes : ℕ) (edges : List Edge) (marks given table mirrors : List ℕ) → AreMarks nodes edges marks → given ≡ marks → AreNumbered first count given (length given) table mirrors → AreNumbered first count marks nodes table mirrors
-numbered_is first count nodes edges marks given table mirrors marked same numbered =
-    let P : List ℕ → Type 0 = λ xs. AreNumbered first count xs (length xs) table mirrors in
-    let Q : ℕ → Type 0 = λ n. AreNumbered first count marks n table mirrors in
-    subst Q marked.long (subst P same numbered)
+-- numbers of all marks are those of all nodes
+pub numbered_is : (first count nodes : ℕ) (edges : List Edge) (marks : List Bool) (table mirrors : List ℕ) → AreMarks nodes edges marks → AreNumbered first count marks (length marks) table mirrors → AreNumbered first count marks nodes table mirrors
+numbered_is first count nodes edges marks table mirrors marked numbered =
+    let P : ℕ → Type 0 = λ n. AreNumbered first count marks n table mirrors in
+    subst P marked.long numbered
 
+-- the vertices of a host, as the lemmas take them
 pub vertices_are : (first end : ℕ) (masters : List ℕ) (host : ℕ) → first ≤ end
     → ((v : ℕ) → v < length masters → (slice_index masters v ≡ host) ↔ ((first ≤ v) × (v < end)))
     → (v : ℕ) → v < length masters → (slice_index masters v ≡ host) ↔ ((first ≤ v) × (v < first + (end - first)))

@@ -3,6 +3,7 @@ pub mod Keyed
 pub mod CountingSteps
 pub mod CountedOut
 pub mod Delimited
+pub mod Ranges
 pub mod NumberingSteps
 pub mod Lids
 pub mod Assembled

@@ -94,8 +94,8 @@ impl LocalGraph {
         let (first, end) = masters.range(host);
         let masters = masters.try_clone(alloc)?;
         let count = end - first;
-        let mut table = marked(alloc, nodes, edges)?;
-        let mirrors = numbered(alloc, first, count, &mut table)?;
+        let marks = marked(alloc, nodes, edges)?;
+        let (table, mirrors) = numbered(alloc, first, count, &marks)?;
         let proxies = count + mirrors.len() as u32;
         let out = out_arcs(alloc, proxies, &table, edges)?;
         let back = in_arcs(alloc, proxies, &table, edges, &out.heads)?;

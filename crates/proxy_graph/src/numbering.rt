@@ -1,53 +1,69 @@
 //! Local numbers for the vertices that have proxies on a host.
-ghost use Rattle.std.specs.Prelude.{◌≡◌, ◌+◌, ◌≤◌, length, All, IfOk};
+ghost use Rattle.std.specs.Prelude.{◌≡◌, ℕ, ◌+◌, ◌<◌, ◌≤◌, length, slice_index, All, IfOk};
 ghost use Rattle.graph_model.specs.Graph.{most_nodes, IsWithin};
 ghost use Rattle.proxy_graph.specs.Numbering.{is_hosted, AreMarks, AreNumbered};
 
 use graph_model::Edge;
 use std::alloc::{AllocError, Global};
+use update_bits::UpdateBits;
+
+/// The set of the vertices that are ends of edges.
+pub(crate) fn marked(alloc: Global, nodes: u32, edges: &[Edge]) -> Result<UpdateBits, AllocError>
+    requires { All (IsWithin nodes) edges.now }
+    ensures { IfOk result (λ marks. AreMarks nodes edges.now marks) }
+{
+    let mut marks = UpdateBits::new(alloc, nodes)?;
+    for edge in edges {
+        marks.set(edge.src);
+        marks.set(edge.dst);
+    }
+    Ok(marks)
+}
 
 /// Whether a vertex is among the `count` vertices from `first` on.
-pub(crate) fn is_hosted(first: u32, count: u32, v: u32) -> bool
+fn is_hosted(first: u32, count: u32, v: u32) -> bool
     ensures { result ≡ is_hosted first count v }
 {
     v >= first && v - first < count
 }
 
-/// A table of all vertices: 1 for each end of an edge, and 0 for the others.
-pub(crate) fn marked(alloc: Global, nodes: u32, edges: &[Edge]) -> Result<Vec<u32>, AllocError>
-    requires { All (IsWithin nodes) edges.now }
-    ensures { IfOk result (λ marks. AreMarks nodes edges.now marks.items) }
+/// Numbers the `count` masters from `first` on: each has its place among them.
+fn number_masters(first: u32, count: u32, table: &mut [u32])
+    requires few { length table.old ≤ most_nodes }
+    requires within { first + count ≤ length table.old }
+    ensures long { length table.new ≡ length table.old }
+    ensures places { (k : ℕ) → k < count → slice_index table.new (first + k) ≡ k }
 {
-    let mut marks = vec![in alloc; 0; nodes as usize]?;
-    for edge in edges {
-        marks[edge.src as usize] = 1;
-        marks[edge.dst as usize] = 1;
+    for place in 0..count {
+        table[(first + place) as usize] = place;
     }
-    Ok(marks)
 }
 
-/// The mirrors, rising: vertices that have a mark and are not among the `count` masters from `first`
-/// on. Local numbers take the place of marks: those of masters first, and then those of mirrors.
+/// The local numbers of vertices in a table of all of them, and the mirrors, rising: they are the
+/// vertices that have a mark and are not among the `count` masters from `first` on. Masters have the
+/// first numbers, and mirrors those that follow. The table has 0 for a vertex with no proxy.
 pub(crate) fn numbered(
     alloc: Global,
     first: u32,
     count: u32,
-    table: &mut [u32],
-) -> Result<Vec<u32>, AllocError>
-    requires few { length table.old ≤ most_nodes }
-    requires within { first + count ≤ length table.old }
-    ensures { IfOk result (λ mirrors. AreNumbered first count table.old (length table.old) table.new mirrors.items) }
+    marks: &UpdateBits,
+) -> Result<(Vec<u32>, Vec<u32>), AllocError>
+    requires few { length marks.now ≤ most_nodes }
+    requires within { first + count ≤ length marks.now }
+    ensures { IfOk result (λ lids. AreNumbered first count marks.now (length marks.now) lids.0.items lids.1.items) }
 {
-    let nodes = table.len() as u32;
+    let mut table = vec![in alloc; 0; marks.len() as usize]?;
+    number_masters(first, count, &mut table);
     let mut mirrors = Vec::new(alloc);
-    for v in 0..nodes {
-        let at = v as usize;
+    let mut at = 0;
+    while let Some(v) = marks.next_from(at) {
         if is_hosted(first, count, v) {
-            table[at] = v - first;
-        } else if table[at] != 0 {
-            table[at] = count + mirrors.len() as u32;
+            at = first + count;
+        } else {
+            table[v as usize] = count + mirrors.len() as u32;
             mirrors.push(v)?;
+            at = v + 1;
         }
     }
-    Ok(mirrors)
+    Ok((table, mirrors))
 }

@@ -1,32 +1,76 @@
-use Rattle.std.proofs.Common.{ℕ, set, subst, ◌≡◌, ◌+◌, ◌<◌, List, length, arith, ap, sym, ◌∙◌}
-use Rattle.proxy_graph.specs.Numbering.{AreNumbered}
-use Rattle.proxy_graph.proofs.NumberingSteps.{next_master, next_mirror, next_none, few_mirrors}
+use Rattle.std.proofs.Common.{◌≡◌, ◌+◌, ◌<◌, ◌≤◌, ℕ, List, Bool, true, false, not, ◌&&◌, length, drop, set, arith, ap, sym, ◌∙◌, subst, inl, inr}
+use Rattle.std.proofs.lemmas.Bool.{cases_lt}
+use Rattle.std.proofs.lemmas.List.{take_at}
+use Rattle.list_laws.specs.Members.{has_member, IsLeastMemberSince}
+use Rattle.proxy_graph.specs.Numbering.{is_hosted, is_mirrored, AreNumbered}
+use Rattle.proxy_graph.proofs.Lids.{hosted_true}
+use Rattle.proxy_graph.proofs.NumberingSteps.{hosted_is, masters_numbered, unmarked, passed_over, next_mirror, few_mirrors}
 use Rattle.proxy_graph.proofs.numbering.numbered.Goals as goal
-use Rattle.proxy_graph.proofs.numbering.numbered.Goals.{then-is_hosted, else-is_hosted+then-table-at-ne0+in_ok-push, else-is_hosted+else-table-at-ne0}
 
-pub overflow_cast-table : goal.overflow_cast-table
-overflow_cast-table c =
-    let few = few_mirrors c.args.first c.args.count c.args.table.now c.loop-v.table c.loop-v.mirrors.items c.loop-v.v c.loop-v.invariant (omega arith) in
-    omega (arith, few, c.len.ensures, c.requires.few)
+-- numbers with a table and mirrors that equal these
+moved : (first count : ℕ) (marks : List Bool) (end : ℕ) (table others mirrors same : List ℕ) → others ≡ table → same ≡ mirrors → AreNumbered first count marks end table mirrors → AreNumbered first count marks end others same
+moved first count marks end table others mirrors same tables lists are =
+    subst (λ xs. AreNumbered first count marks end xs same) (sym tables) (subst (λ ys. AreNumbered first count marks end table ys) (sym lists) are)
 
-pub overflow_add-table : goal.overflow_add-table
-overflow_add-table c =
-    let few = few_mirrors c.args.first c.args.count c.args.table.now c.loop-v.table c.loop-v.mirrors.items c.loop-v.v c.loop-v.invariant (omega arith) in
-    omega (arith, few, c.len.ensures, c.requires.few)
+-- before the next mark nothing is mirrored
+none_before : (first count : ℕ) (marks : List Bool) (at v : ℕ) → IsLeastMemberSince marks at v → (u : ℕ) → at ≤ u → u < v → is_mirrored first count marks u ≡ false
+none_before first count marks at v next u low high = unmarked first count marks u (next.least u low high)
 
--- a state that equals one in which all is right
-moved : (first count : ℕ) (marks : List ℕ) (end : ℕ) (table new mirrors others : List ℕ) → new ≡ table → others ≡ mirrors → AreNumbered first count marks end table mirrors → AreNumbered first count marks end new others
-moved first count marks end table new mirrors others same_table same_mirrors are =
-    subst (λ xs. AreNumbered first count marks end xs others) (sym same_table) (subst (λ ys. AreNumbered first count marks end table ys) (sym same_mirrors) are)
+-- nor before the end of the row, where the next mark is in it
+none_in_row : (first count : ℕ) (marks : List Bool) (at v : ℕ) → IsLeastMemberSince marks at v → is_hosted first count v ≡ true → (u : ℕ) → at ≤ u → u < first + count → is_mirrored first count marks u ≡ false
+none_in_row first count marks at v next here u low high = elim (cases_lt u v) [
+  | inl early ↦ none_before first count marks at v next u low early
+  | inr late ↦ (let row = hosted_is first count v here in ap (λ b. not b && has_member marks u) (hosted_true first count u (omega (arith, row)) high))
+]
+
+pub loop-v-init : goal.loop-v-init
+loop-v-init c =
+    let long = c.number_masters.ensures.long ∙ ap length c.deref_mut.ensures.value in
+    let made = c.in_ok-table.ensures.len ∙ c.len.ensures in
+    let whole = take_at c.number_masters.new.table (drop (length c.number_masters.new.table) c.in_ok-table.table.items) c.in_ok-table.table.len (omega (arith, long, c.in_ok-table.table.ok.0)) in
+    let all : length c.number_masters.new.table ≡ length c.args.marks.now = omega (arith, long, made, c.in_ok-table.table.ok.0) in
+    record {
+      within = omega arith;
+      numbered = moved _ _ _ _ _ _ _ _ whole c.new-mirrors.ensures.items (masters_numbered c.args.first c.args.count c.args.marks.now c.number_masters.new.table all c.number_masters.ensures.places);
+    }
+
+pub loop-v-preserved-then-is_hosted : goal.loop-v-preserved-then-is_hosted
+loop-v-preserved-then-is_hosted c =
+    let here : is_hosted c.args.first c.args.count c.in-Some.v ≡ true = sym c.if-is_hosted.ensures in
+    let row = hosted_is c.args.first c.args.count c.in-Some.v here in
+    record {
+      within = c.requires.within;
+      numbered = passed_over c.args.first c.args.count c.args.marks.now c.loop-v.table.items c.loop-v.mirrors.items c.loop-v.at c.loop-v.invariant.numbered (c.args.first + c.args.count)
+          (omega (arith, row, c.in-Some.ensures.next.since))
+          (none_in_row c.args.first c.args.count c.args.marks.now c.loop-v.at c.in-Some.v c.in-Some.ensures.next here);
+    }
+
+pub overflow_cast-len-else-is_hosted : goal.overflow_cast-len-else-is_hosted
+overflow_cast-len-else-is_hosted c =
+    let few = few_mirrors c.args.first c.args.count c.args.marks.now c.loop-v.table.items c.loop-v.mirrors.items c.loop-v.at c.loop-v.invariant.numbered in
+    omega (arith, few, c.loop-v.invariant.within, c.loop-v.mirrors.ok.0, c.len-else-is_hosted.ensures, c.requires.few)
+
+pub overflow_add-count : goal.overflow_add-count
+overflow_add-count c =
+    let few = few_mirrors c.args.first c.args.count c.args.marks.now c.loop-v.table.items c.loop-v.mirrors.items c.loop-v.at c.loop-v.invariant.numbered in
+    omega (arith, few, c.loop-v.invariant.within, c.loop-v.mirrors.ok.0, c.len-else-is_hosted.ensures, c.requires)
 
 pub loop-v-preserved : goal.loop-v-preserved
 loop-v-preserved c =
-    let within : c.loop-v.v < length c.args.table.now = omega arith in
-    elim c.if-is_hosted.branch [
-      | then-is_hosted w ↦ moved _ _ _ _ _ _ _ _ w.table-is (ap (λ v. v.items) w.mirrors-is) (next_master c.args.first c.args.count c.args.table.now c.loop-v.table c.loop-v.mirrors.items c.loop-v.v c.loop-v.invariant within (sym w.if-is_hosted.ensures))
-      | else-is_hosted+then-table-at-ne0+in_ok-push w ↦ moved _ _ _ _ _ _ _ _
-          (w.table-is ∙ ap (λ k. set c.loop-v.table c.loop-v.v (c.args.count + k)) (w.len.ensures ∙ c.loop-v.mirrors.ok.0))
-          (ap (λ v. v.items) w.mirrors-is ∙ w.in_ok-push.ensures.items)
-          (next_mirror c.args.first c.args.count c.args.table.now c.loop-v.table c.loop-v.mirrors.items c.loop-v.v c.loop-v.invariant within (sym w.if-is_hosted.ensures) w.if-table-at-ne0.true)
-      | else-is_hosted+else-table-at-ne0 w ↦ moved _ _ _ _ _ _ _ _ w.table-is (ap (λ v. v.items) w.mirrors-is) (next_none c.args.first c.args.count c.args.table.now c.loop-v.table c.loop-v.mirrors.items c.loop-v.v c.loop-v.invariant within (sym w.if-is_hosted.ensures) w.if-table-at-ne0.false)
-    ]
+    let marks = c.args.marks.now in
+    let elsewhere : is_hosted c.args.first c.args.count c.in-Some.v ≡ false = sym c.if-is_hosted.ensures in
+    let next = c.in-Some.ensures.next in
+    let before = passed_over c.args.first c.args.count marks c.loop-v.table.items c.loop-v.mirrors.items c.loop-v.at c.loop-v.invariant.numbered c.in-Some.v next.since (none_before c.args.first c.args.count marks c.loop-v.at c.in-Some.v next) in
+    record {
+      within = omega (arith, c.in-Some.ensures.below);
+      numbered = moved _ _ _ _ _ _ _ _
+          (ap (λ (n : ℕ). set c.loop-v.table.items c.in-Some.v (c.args.count + n)) (c.len-else-is_hosted.ensures ∙ c.loop-v.mirrors.ok.0))
+          c.in_ok-push.ensures.items
+          (next_mirror c.args.first c.args.count marks c.loop-v.table.items c.loop-v.mirrors.items c.in-Some.v before elsewhere next.member c.in-Some.ensures.below);
+    }
+
+pub returns : goal.returns
+returns c =
+    let marks = c.args.marks.now in
+    passed_over c.args.first c.args.count marks c.loop-v.table.items c.loop-v.mirrors.items c.loop-v.at c.loop-v.invariant.numbered (length marks) c.loop-v.invariant.within
+    (λ u low high. unmarked c.args.first c.args.count marks u (c.in_default.ensures.next u low))
