@@ -7,4 +7,5 @@ pub mod Ranges
 pub mod NumberingSteps
 pub mod Lids
 pub mod Assembled
+pub mod SurveySteps
 pub mod InFileOrder

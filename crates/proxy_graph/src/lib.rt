@@ -10,6 +10,7 @@ mod in_arcs;
 mod local_graph;
 mod numbering;
 mod out_arcs;
+mod survey;
 
 pub use arc_view::ArcView;
 pub use heads::Heads;

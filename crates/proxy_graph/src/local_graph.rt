@@ -7,18 +7,21 @@ ghost use Rattle.graph_model.specs.declared.edge.Way.TheVariants.{Outward, Inwar
 ghost use Rattle.graph_division.specs.Lists.{is_readable, is_writable};
 ghost use Rattle.graph_division.specs.Shares.{Share, IsShare, nodes_of, in_file_order, seen, masters_here, proxies_here};
 ghost use Rattle.proxy_graph.specs.Heads.{vertex_at, heads_from};
+ghost use Rattle.proxy_graph.specs.Numbering.{AreMarks};
 
 use crate::arc_view::ArcView;
 use crate::arcs::Arcs;
-use crate::file_order::{by_source, is_by_source};
+use crate::file_order::by_source;
 use crate::heads::Heads;
 use crate::in_arcs::in_arcs;
-use crate::numbering::{marked, numbered};
+use crate::numbering::numbered;
 use crate::out_arcs::out_arcs;
+use crate::survey::surveyed;
 use cusp_rules::Masters;
 use graph_model::{Edge, Way};
 use std::alloc::{AllocError, Global};
 use std::marker::Model;
+use update_bits::UpdateBits;
 
 /// One host's part of a divided graph: the host's edges, and a proxy for each vertex whose master is
 /// here or that is an end of one of these edges. Proxies have local numbers: masters first, then
@@ -68,19 +71,21 @@ impl LocalGraph {
         requires within { All (IsWithin nodes) edges.now }
         ensures { IfOk result (λ graph. graph ≡ record { host = host; hosts = masters.now.hosts; masters = masters.now.masters; edges = in_file_order nodes edges.now }) }
     {
-        if is_by_source(edges) {
-            return LocalGraph::build(alloc, host, masters, nodes, edges);
+        let (marks, is_by_source) = surveyed(alloc, nodes, edges)?;
+        if is_by_source {
+            return LocalGraph::build(alloc, host, masters, nodes, &marks, edges);
         }
         let edges = by_source(alloc, nodes, edges)?;
-        LocalGraph::build(alloc, host, masters, nodes, edges.as_slice())
+        LocalGraph::build(alloc, host, masters, nodes, &marks, edges.as_slice())
     }
 
-    /// The local graph of edges whose sources do not fall.
+    /// The local graph of edges whose sources do not fall and whose ends have marks.
     fn build(
         alloc: Global,
         host: u16,
         masters: &Masters,
         nodes: u32,
+        marks: &UpdateBits,
         edges: &[Edge],
     ) -> Result<LocalGraph, AllocError>
         requires host { host < masters.now.hosts }
@@ -89,13 +94,13 @@ impl LocalGraph {
         requires few_edges { length edges.now ≤ most_edges }
         requires within { All (IsWithin nodes) edges.now }
         requires by_source { IsBySource edges.now }
+        requires marks { AreMarks nodes edges.now marks.now }
         ensures { IfOk result (λ graph. graph ≡ record { host = host; hosts = masters.now.hosts; masters = masters.now.masters; edges = edges.now }) }
     {
         let (first, end) = masters.range(host);
         let masters = masters.try_clone(alloc)?;
         let count = end - first;
-        let marks = marked(alloc, nodes, edges)?;
-        let (table, mirrors) = numbered(alloc, first, count, &marks)?;
+        let (table, mirrors) = numbered(alloc, first, count, marks)?;
         let proxies = count + mirrors.len() as u32;
         let out = out_arcs(alloc, proxies, &table, edges)?;
         let back = in_arcs(alloc, proxies, &table, edges, &out.heads)?;

@@ -1,24 +1,10 @@
 //! Local numbers for the vertices that have proxies on a host.
-ghost use Rattle.std.specs.Prelude.{◌≡◌, ℕ, ◌+◌, ◌<◌, ◌≤◌, length, slice_index, All, IfOk};
-ghost use Rattle.graph_model.specs.Graph.{most_nodes, IsWithin};
-ghost use Rattle.proxy_graph.specs.Numbering.{is_hosted, AreMarks, AreNumbered};
+ghost use Rattle.std.specs.Prelude.{◌≡◌, ℕ, ◌+◌, ◌<◌, ◌≤◌, length, slice_index, IfOk};
+ghost use Rattle.graph_model.specs.Graph.{most_nodes};
+ghost use Rattle.proxy_graph.specs.Numbering.{is_hosted, AreNumbered};
 
-use graph_model::Edge;
 use std::alloc::{AllocError, Global};
 use update_bits::UpdateBits;
-
-/// The set of the vertices that are ends of edges.
-pub(crate) fn marked(alloc: Global, nodes: u32, edges: &[Edge]) -> Result<UpdateBits, AllocError>
-    requires { All (IsWithin nodes) edges.now }
-    ensures { IfOk result (λ marks. AreMarks nodes edges.now marks) }
-{
-    let mut marks = UpdateBits::new(alloc, nodes)?;
-    for edge in edges {
-        marks.set(edge.src);
-        marks.set(edge.dst);
-    }
-    Ok(marks)
-}
 
 /// Whether a vertex is among the `count` vertices from `first` on.
 fn is_hosted(first: u32, count: u32, v: u32) -> bool

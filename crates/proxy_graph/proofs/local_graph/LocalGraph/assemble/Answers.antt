@@ -3,12 +3,13 @@ use Rattle.std.specs.List.{All}
 use Rattle.graph_model.specs.Graph.{IsWithin, IsBySource}
 use Rattle.graph_model.specs.declared.edge.Edge.{Edge}
 use Rattle.graph_division.proofs.FileOrder.{file_order_stays}
-use Rattle.proxy_graph.proofs.InFileOrder.{few_in_file_order, All-in_file_order, IsBySource-in_file_order}
+use Rattle.proxy_graph.specs.Numbering.{AreMarks}
+use Rattle.proxy_graph.proofs.InFileOrder.{few_in_file_order, All-in_file_order, IsBySource-in_file_order, marks_in_file_order}
 use Rattle.proxy_graph.proofs.local_graph.LocalGraph.assemble.Goals as goal
 
 pub returns-then-is_by_source : goal.returns-then-is_by_source
 returns-then-is_by_source c =
-    let stays = file_order_stays c.args.nodes c.args.edges.now c.requires.within (c.if-is_by_source.ensures (search rules)) in
+    let stays = file_order_stays c.args.nodes c.args.edges.now c.requires.within (c.in_ok-marks.ensures.order (search rules)) in
     let P : List Edge → Type 0 = λ edges. IfOk c.build.result (λ graph. graph ≡ record { host = c.args.host; hosts = c.args.masters.now.hosts; masters = c.args.masters.now.masters; edges = edges }) in
     subst P (sym stays) c.build.ensures
 
@@ -25,3 +26,8 @@ pub build-requires-2-clause-by_source : goal.build-requires-2-clause-by_source
 build-requires-2-clause-by_source c =
     let P : List Edge → Type 0 = IsBySource in
     subst P (sym (c.as_slice.ensures.value ∙ c.in_ok-edges.ensures)) (IsBySource-in_file_order c.args.nodes c.args.edges.now)
+
+pub build-requires-2-clause-marks : goal.build-requires-2-clause-marks
+build-requires-2-clause-marks c =
+    let P : List Edge → Type 0 = λ edges. AreMarks c.args.nodes edges c.in_ok-marks.marks in
+    subst P (sym (c.as_slice.ensures.value ∙ c.in_ok-edges.ensures)) (marks_in_file_order c.args.nodes c.args.edges.now c.in_ok-marks.marks c.requires.within c.in_ok-marks.ensures.marks)

@@ -30,10 +30,10 @@ overflow_cast-proxies c =
     let count = c.range-first.result.1 - c.range-first.result.0 in
     let vertices = vertices_are first c.range-first.result.1 share.masters share.host c.range-first.ensures.ordered c.range-first.ensures.vertices in
     let row : first + count ≤ nodes_of share = omega (arith, c.range-first.ensures.ordered, c.range-first.ensures.within) in
-    let marked = at_nodes (λ n. AreMarks n share.edges c.in_ok-marks.marks) c.requires.nodes c.in_ok-marks.ensures in
+    let marked = at_nodes (λ n. AreMarks n share.edges c.args.marks.now) c.requires.nodes c.requires.marks in
     let within = at_nodes (λ n. All (IsWithin n) share.edges) c.requires.nodes c.requires.within in
-    let numbered = numbered_is first count (nodes_of share) share.edges c.in_ok-marks.marks c.in_ok-table.table.items c.in_ok-table.mirrors.items marked c.in_ok-table.ensures in
-    omega (arith, proxies_long share first count c.in_ok-marks.marks c.in_ok-table.table.items c.in_ok-table.mirrors.items within vertices row marked numbered, few_proxies share, c.len.ensures, c.in_ok-table.mirrors.ok.0, c.requires)
+    let numbered = numbered_is first count (nodes_of share) share.edges c.args.marks.now c.in_ok-table.table.items c.in_ok-table.mirrors.items marked c.in_ok-table.ensures in
+    omega (arith, proxies_long share first count c.args.marks.now c.in_ok-table.table.items c.in_ok-table.mirrors.items within vertices row marked numbered, few_proxies share, c.len.ensures, c.in_ok-table.mirrors.ok.0, c.requires)
 
 pub overflow_add-proxies : goal.overflow_add-proxies
 overflow_add-proxies c =
@@ -42,10 +42,10 @@ overflow_add-proxies c =
     let count = c.range-first.result.1 - c.range-first.result.0 in
     let vertices = vertices_are first c.range-first.result.1 share.masters share.host c.range-first.ensures.ordered c.range-first.ensures.vertices in
     let row : first + count ≤ nodes_of share = omega (arith, c.range-first.ensures.ordered, c.range-first.ensures.within) in
-    let marked = at_nodes (λ n. AreMarks n share.edges c.in_ok-marks.marks) c.requires.nodes c.in_ok-marks.ensures in
+    let marked = at_nodes (λ n. AreMarks n share.edges c.args.marks.now) c.requires.nodes c.requires.marks in
     let within = at_nodes (λ n. All (IsWithin n) share.edges) c.requires.nodes c.requires.within in
-    let numbered = numbered_is first count (nodes_of share) share.edges c.in_ok-marks.marks c.in_ok-table.table.items c.in_ok-table.mirrors.items marked c.in_ok-table.ensures in
-    omega (arith, proxies_long share first count c.in_ok-marks.marks c.in_ok-table.table.items c.in_ok-table.mirrors.items within vertices row marked numbered, few_proxies share, c.len.ensures, c.in_ok-table.mirrors.ok.0, c.requires)
+    let numbered = numbered_is first count (nodes_of share) share.edges c.args.marks.now c.in_ok-table.table.items c.in_ok-table.mirrors.items marked c.in_ok-table.ensures in
+    omega (arith, proxies_long share first count c.args.marks.now c.in_ok-table.table.items c.in_ok-table.mirrors.items within vertices row marked numbered, few_proxies share, c.len.ensures, c.in_ok-table.mirrors.ok.0, c.requires)
 
 pub out_arcs-requires-clause-keyed : goal.out_arcs-requires-clause-keyed
 out_arcs-requires-clause-keyed c =
@@ -54,11 +54,11 @@ out_arcs-requires-clause-keyed c =
     let count = c.range-first.result.1 - c.range-first.result.0 in
     let vertices = vertices_are first c.range-first.result.1 share.masters share.host c.range-first.ensures.ordered c.range-first.ensures.vertices in
     let row : first + count ≤ nodes_of share = omega (arith, c.range-first.ensures.ordered, c.range-first.ensures.within) in
-    let marked = at_nodes (λ n. AreMarks n share.edges c.in_ok-marks.marks) c.requires.nodes c.in_ok-marks.ensures in
+    let marked = at_nodes (λ n. AreMarks n share.edges c.args.marks.now) c.requires.nodes c.requires.marks in
     let within = at_nodes (λ n. All (IsWithin n) share.edges) c.requires.nodes c.requires.within in
-    let numbered = numbered_is first count (nodes_of share) share.edges c.in_ok-marks.marks c.in_ok-table.table.items c.in_ok-table.mirrors.items marked c.in_ok-table.ensures in
+    let numbered = numbered_is first count (nodes_of share) share.edges c.args.marks.now c.in_ok-table.table.items c.in_ok-table.mirrors.items marked c.in_ok-table.ensures in
     let table_is : c.deref.result.now ≡ c.in_ok-table.table.items = c.deref.ensures.value in
-    keyed_at Out share.edges (count + length c.in_ok-table.mirrors.items) (count + c.len.result) c.in_ok-table.table.items c.deref.result.now (omega (arith, c.len.ensures, c.in_ok-table.mirrors.ok.0)) table_is (keyed share first count c.in_ok-marks.marks c.in_ok-table.table.items c.in_ok-table.mirrors.items within vertices row marked numbered Out)
+    keyed_at Out share.edges (count + length c.in_ok-table.mirrors.items) (count + c.len.result) c.in_ok-table.table.items c.deref.result.now (omega (arith, c.len.ensures, c.in_ok-table.mirrors.ok.0)) table_is (keyed share first count c.args.marks.now c.in_ok-table.table.items c.in_ok-table.mirrors.items within vertices row marked numbered Out)
 
 pub out_arcs-requires-clause-together : goal.out_arcs-requires-clause-together
 out_arcs-requires-clause-together c =
@@ -67,12 +67,12 @@ out_arcs-requires-clause-together c =
     let count = c.range-first.result.1 - c.range-first.result.0 in
     let vertices = vertices_are first c.range-first.result.1 share.masters share.host c.range-first.ensures.ordered c.range-first.ensures.vertices in
     let row : first + count ≤ nodes_of share = omega (arith, c.range-first.ensures.ordered, c.range-first.ensures.within) in
-    let marked = at_nodes (λ n. AreMarks n share.edges c.in_ok-marks.marks) c.requires.nodes c.in_ok-marks.ensures in
+    let marked = at_nodes (λ n. AreMarks n share.edges c.args.marks.now) c.requires.nodes c.requires.marks in
     let within = at_nodes (λ n. All (IsWithin n) share.edges) c.requires.nodes c.requires.within in
-    let numbered = numbered_is first count (nodes_of share) share.edges c.in_ok-marks.marks c.in_ok-table.table.items c.in_ok-table.mirrors.items marked c.in_ok-table.ensures in
+    let numbered = numbered_is first count (nodes_of share) share.edges c.args.marks.now c.in_ok-table.table.items c.in_ok-table.mirrors.items marked c.in_ok-table.ensures in
     let table_is : c.deref.result.now ≡ c.in_ok-table.table.items = c.deref.ensures.value in
     let P : List ℕ → Type 0 = λ xs. AreTogether (key_of Out xs) share.edges in
-    subst P (sym table_is) (together share first count c.in_ok-marks.marks c.in_ok-table.table.items c.in_ok-table.mirrors.items within vertices row marked numbered c.requires.by_source)
+    subst P (sym table_is) (together share first count c.args.marks.now c.in_ok-table.table.items c.in_ok-table.mirrors.items within vertices row marked numbered c.requires.by_source)
 
 pub in_arcs-requires-clause-keyed : goal.in_arcs-requires-clause-keyed
 in_arcs-requires-clause-keyed c =
@@ -81,11 +81,11 @@ in_arcs-requires-clause-keyed c =
     let count = c.range-first.result.1 - c.range-first.result.0 in
     let vertices = vertices_are first c.range-first.result.1 share.masters share.host c.range-first.ensures.ordered c.range-first.ensures.vertices in
     let row : first + count ≤ nodes_of share = omega (arith, c.range-first.ensures.ordered, c.range-first.ensures.within) in
-    let marked = at_nodes (λ n. AreMarks n share.edges c.in_ok-marks.marks) c.requires.nodes c.in_ok-marks.ensures in
+    let marked = at_nodes (λ n. AreMarks n share.edges c.args.marks.now) c.requires.nodes c.requires.marks in
     let within = at_nodes (λ n. All (IsWithin n) share.edges) c.requires.nodes c.requires.within in
-    let numbered = numbered_is first count (nodes_of share) share.edges c.in_ok-marks.marks c.in_ok-table.table.items c.in_ok-table.mirrors.items marked c.in_ok-table.ensures in
+    let numbered = numbered_is first count (nodes_of share) share.edges c.args.marks.now c.in_ok-table.table.items c.in_ok-table.mirrors.items marked c.in_ok-table.ensures in
     let table_is : c.deref-2.result.now ≡ c.in_ok-table.table.items = c.deref-2.ensures.value in
-    keyed_at Back share.edges (count + length c.in_ok-table.mirrors.items) (count + c.len.result) c.in_ok-table.table.items c.deref-2.result.now (omega (arith, c.len.ensures, c.in_ok-table.mirrors.ok.0)) table_is (keyed share first count c.in_ok-marks.marks c.in_ok-table.table.items c.in_ok-table.mirrors.items within vertices row marked numbered Back)
+    keyed_at Back share.edges (count + length c.in_ok-table.mirrors.items) (count + c.len.result) c.in_ok-table.table.items c.deref-2.result.now (omega (arith, c.len.ensures, c.in_ok-table.mirrors.ok.0)) table_is (keyed share first count c.args.marks.now c.in_ok-table.table.items c.in_ok-table.mirrors.items within vertices row marked numbered Back)
 
 sorted_at : (side : Side) (edges : List Edge) (keys others : ℕ) (table given : List ℕ) (arcs : Arcs) → keys ≡ others → table ≡ given → AreSorted side keys table edges arcs → AreSorted side others given edges arcs
 sorted_at side edges keys others table given arcs same_keys same_table is =
@@ -100,9 +100,9 @@ invariant_of-result c =
     let count = c.range-first.result.1 - c.range-first.result.0 in
     let vertices = vertices_are first c.range-first.result.1 share.masters share.host c.range-first.ensures.ordered c.range-first.ensures.vertices in
     let row : first + count ≤ nodes_of share = omega (arith, c.range-first.ensures.ordered, c.range-first.ensures.within) in
-    let marked = at_nodes (λ n. AreMarks n share.edges c.in_ok-marks.marks) c.requires.nodes c.in_ok-marks.ensures in
+    let marked = at_nodes (λ n. AreMarks n share.edges c.args.marks.now) c.requires.nodes c.requires.marks in
     let within = at_nodes (λ n. All (IsWithin n) share.edges) c.requires.nodes c.requires.within in
-    let numbered = numbered_is first count (nodes_of share) share.edges c.in_ok-marks.marks c.in_ok-table.table.items c.in_ok-table.mirrors.items marked c.in_ok-table.ensures in
+    let numbered = numbered_is first count (nodes_of share) share.edges c.args.marks.now c.in_ok-table.table.items c.in_ok-table.mirrors.items marked c.in_ok-table.ensures in
     let keys_are : count + c.len.result ≡ count + length c.in_ok-table.mirrors.items = omega (arith, c.len.ensures, c.in_ok-table.mirrors.ok.0) in
     let out_table : c.deref.result.now ≡ c.in_ok-table.table.items = c.deref.ensures.value in
     let back_table : c.deref-2.result.now ≡ c.in_ok-table.table.items = c.deref-2.ensures.value in
@@ -128,7 +128,7 @@ invariant_of-result c =
       out = c.in_ok-out.out;
       back = c.in_ok-back.back;
     } in
-    kept_fields share first count c.in_ok-marks.marks c.in_ok-table.table.items c.in_ok-table.mirrors.items within vertices row marked numbered is_share graph refl
+    kept_fields share first count c.args.marks.now c.in_ok-table.table.items c.in_ok-table.mirrors.items within vertices row marked numbered is_share graph refl
     (ap (λ (a : Assignment). a.hosts) c.in_ok-masters.ensures.same) (ap (λ (a : Assignment). a.masters) c.in_ok-masters.ensures.same) c.requires.nodes refl refl refl
     (sorted_at Out share.edges (count + c.len.result) (count + length c.in_ok-table.mirrors.items) c.deref.result.now c.in_ok-table.table.items c.in_ok-out.out keys_are out_table c.in_ok-out.ensures.sorted)
     (sorted_at Back share.edges (count + c.len.result) (count + length c.in_ok-table.mirrors.items) c.deref-2.result.now c.in_ok-table.table.items c.in_ok-back.back keys_are back_table c.in_ok-back.ensures)
@@ -140,9 +140,9 @@ returns c =
     let count = c.range-first.result.1 - c.range-first.result.0 in
     let vertices = vertices_are first c.range-first.result.1 share.masters share.host c.range-first.ensures.ordered c.range-first.ensures.vertices in
     let row : first + count ≤ nodes_of share = omega (arith, c.range-first.ensures.ordered, c.range-first.ensures.within) in
-    let marked = at_nodes (λ n. AreMarks n share.edges c.in_ok-marks.marks) c.requires.nodes c.in_ok-marks.ensures in
+    let marked = at_nodes (λ n. AreMarks n share.edges c.args.marks.now) c.requires.nodes c.requires.marks in
     let within = at_nodes (λ n. All (IsWithin n) share.edges) c.requires.nodes c.requires.within in
-    let numbered = numbered_is first count (nodes_of share) share.edges c.in_ok-marks.marks c.in_ok-table.table.items c.in_ok-table.mirrors.items marked c.in_ok-table.ensures in
+    let numbered = numbered_is first count (nodes_of share) share.edges c.args.marks.now c.in_ok-table.table.items c.in_ok-table.mirrors.items marked c.in_ok-table.ensures in
     let keys_are : count + c.len.result ≡ count + length c.in_ok-table.mirrors.items = omega (arith, c.len.ensures, c.in_ok-table.mirrors.ok.0) in
     let out_table : c.deref.result.now ≡ c.in_ok-table.table.items = c.deref.ensures.value in
     let back_table : c.deref-2.result.now ≡ c.in_ok-table.table.items = c.deref-2.ensures.value in
@@ -168,7 +168,7 @@ returns c =
       out = c.in_ok-out.out;
       back = c.in_ok-back.back;
     } in
-    stands share first count c.in_ok-marks.marks c.in_ok-table.table.items c.in_ok-table.mirrors.items within vertices row marked numbered is_share graph refl
+    stands share first count c.args.marks.now c.in_ok-table.table.items c.in_ok-table.mirrors.items within vertices row marked numbered is_share graph refl
     (ap (λ (a : Assignment). a.hosts) c.in_ok-masters.ensures.same) (ap (λ (a : Assignment). a.masters) c.in_ok-masters.ensures.same) c.requires.nodes refl refl refl
     (sorted_at Out share.edges (count + c.len.result) (count + length c.in_ok-table.mirrors.items) c.deref.result.now c.in_ok-table.table.items c.in_ok-out.out keys_are out_table c.in_ok-out.ensures.sorted)
     (sorted_at Back share.edges (count + c.len.result) (count + length c.in_ok-table.mirrors.items) c.deref-2.result.now c.in_ok-table.table.items c.in_ok-back.back keys_are back_table c.in_ok-back.ensures)
