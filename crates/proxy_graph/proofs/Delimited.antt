@@ -124,6 +124,38 @@ delimited_none key keys edges = record {
     zero_at : (k : ℕ) → k < keys → slice_index (replicate keys 0) k ≡ 0
     zero_at k low = get_or-replicate keys k 0 0 low
 
+-- runs of edges so far: their limits fit, and tell where edges of one key stand if these lie side by side
+pub record KeepsRuns (key : Edge → ℕ) (keys : ℕ) (edges : List Edge) (end : ℕ) (starts ends : List ℕ) : Type 0 where
+  pub started : length starts ≡ keys
+  pub ended : length ends ≡ keys
+  pub limits : AreTogether key edges → AreDelimited key keys edges end starts ends
+
+-- before the first edge
+pub runs_none : (key : Edge → ℕ) (keys : ℕ) (edges : List Edge) → KeepsRuns key keys edges 0 (replicate keys 0) (replicate keys 0)
+runs_none key keys edges = record {
+  started = length-replicate keys 0;
+  ended = length-replicate keys 0;
+  limits = λ together. delimited_none key keys edges;
+}
+
+module _ (key : Edge → ℕ) (keys : ℕ) (edges : List Edge) (i : ℕ) (within : i < length edges) (known : key (edge_at edges i) < keys)
+    (starts ends : List ℕ) (so_far : KeepsRuns key keys edges i starts ends) where
+  -- the first edge of its key
+  pub run_begun : slice_index ends (key (edge_at edges i)) ≡ 0 → KeepsRuns key keys edges (i + 1) (set starts (key (edge_at edges i)) i) (set ends (key (edge_at edges i)) (i + 1))
+  run_begun fresh = record {
+    started = length-set starts (key (edge_at edges i)) i ∙ so_far.started;
+    ended = length-set ends (key (edge_at edges i)) (i + 1) ∙ so_far.ended;
+    limits = λ together. first_of_key key keys edges i within together known starts ends (so_far.limits together) fresh;
+  }
+
+  -- another edge of its key
+  pub run_goes_on : slice_index ends (key (edge_at edges i)) ≢ 0 → KeepsRuns key keys edges (i + 1) starts (set ends (key (edge_at edges i)) (i + 1))
+  run_goes_on seen = record {
+    started = so_far.started;
+    ended = length-set ends (key (edge_at edges i)) (i + 1) ∙ so_far.ended;
+    limits = λ together. more_of_key key keys edges i within together known starts ends (so_far.limits together) seen;
+  }
+
 -- ---- what stands between
 
 -- a test that all elements pass leaves them

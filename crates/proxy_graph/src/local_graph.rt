@@ -102,8 +102,8 @@ impl LocalGraph {
         let count = end - first;
         let (table, mirrors) = numbered(alloc, first, count, marks)?;
         let proxies = count + mirrors.len() as u32;
-        let out = out_arcs(alloc, proxies, &table, edges)?;
-        let back = in_arcs(alloc, proxies, &table, edges, &out.heads)?;
+        let (out, counts) = out_arcs(alloc, proxies, &table, edges)?;
+        let back = in_arcs(alloc, &table, edges, &out.heads, counts)?;
         Ok(LocalGraph {
             host,
             nodes,

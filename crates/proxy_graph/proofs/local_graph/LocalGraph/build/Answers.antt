@@ -1,4 +1,4 @@
-use Rattle.std.proofs.Common.{◌≡◌, ℕ, ◌+◌, ◌-◌, ◌≤◌, List, length, arith, ap, sym, subst, refl}
+use Rattle.std.proofs.Common.{◌≡◌, ◌∙◌, ℕ, ◌+◌, ◌-◌, ◌≤◌, List, length, arith, ap, sym, subst, refl}
 use Rattle.std.specs.List.{All}
 use Rattle.graph_model.specs.Graph.{IsWithin}
 use Rattle.graph_model.specs.declared.edge.Edge.{Edge}
@@ -47,8 +47,8 @@ overflow_add-proxies c =
     let numbered = numbered_is first count (nodes_of share) share.edges c.args.marks.now c.in_ok-table.table.items c.in_ok-table.mirrors.items marked c.in_ok-table.ensures in
     omega (arith, proxies_long share first count c.args.marks.now c.in_ok-table.table.items c.in_ok-table.mirrors.items within vertices row marked numbered, few_proxies share, c.len.ensures, c.in_ok-table.mirrors.ok.0, c.requires)
 
-pub out_arcs-requires-clause-keyed : goal.out_arcs-requires-clause-keyed
-out_arcs-requires-clause-keyed c =
+pub out_arcs-requires-clause-out_keyed : goal.out_arcs-requires-clause-out_keyed
+out_arcs-requires-clause-out_keyed c =
     let share = share_with c.args.host c.args.masters.now.hosts c.args.masters.now.masters c.args.edges.now in
     let first = c.range-first.result.0 in
     let count = c.range-first.result.1 - c.range-first.result.0 in
@@ -60,8 +60,8 @@ out_arcs-requires-clause-keyed c =
     let table_is : c.deref.result.now ≡ c.in_ok-table.table.items = c.deref.ensures.value in
     keyed_at Out share.edges (count + length c.in_ok-table.mirrors.items) (count + c.len.result) c.in_ok-table.table.items c.deref.result.now (omega (arith, c.len.ensures, c.in_ok-table.mirrors.ok.0)) table_is (keyed share first count c.args.marks.now c.in_ok-table.table.items c.in_ok-table.mirrors.items within vertices row marked numbered Out)
 
-pub out_arcs-requires-clause-together : goal.out_arcs-requires-clause-together
-out_arcs-requires-clause-together c =
+pub out_arcs-requires-clause-back_keyed : goal.out_arcs-requires-clause-back_keyed
+out_arcs-requires-clause-back_keyed c =
     let share = share_with c.args.host c.args.masters.now.hosts c.args.masters.now.masters c.args.edges.now in
     let first = c.range-first.result.0 in
     let count = c.range-first.result.1 - c.range-first.result.0 in
@@ -71,8 +71,7 @@ out_arcs-requires-clause-together c =
     let within = at_nodes (λ n. All (IsWithin n) share.edges) c.requires.nodes c.requires.within in
     let numbered = numbered_is first count (nodes_of share) share.edges c.args.marks.now c.in_ok-table.table.items c.in_ok-table.mirrors.items marked c.in_ok-table.ensures in
     let table_is : c.deref.result.now ≡ c.in_ok-table.table.items = c.deref.ensures.value in
-    let P : List ℕ → Type 0 = λ xs. AreTogether (key_of Out xs) share.edges in
-    subst P (sym table_is) (together share first count c.args.marks.now c.in_ok-table.table.items c.in_ok-table.mirrors.items within vertices row marked numbered c.requires.by_source)
+    keyed_at Back share.edges (count + length c.in_ok-table.mirrors.items) (count + c.len.result) c.in_ok-table.table.items c.deref.result.now (omega (arith, c.len.ensures, c.in_ok-table.mirrors.ok.0)) table_is (keyed share first count c.args.marks.now c.in_ok-table.table.items c.in_ok-table.mirrors.items within vertices row marked numbered Back)
 
 pub in_arcs-requires-clause-keyed : goal.in_arcs-requires-clause-keyed
 in_arcs-requires-clause-keyed c =
@@ -85,7 +84,13 @@ in_arcs-requires-clause-keyed c =
     let within = at_nodes (λ n. All (IsWithin n) share.edges) c.requires.nodes c.requires.within in
     let numbered = numbered_is first count (nodes_of share) share.edges c.args.marks.now c.in_ok-table.table.items c.in_ok-table.mirrors.items marked c.in_ok-table.ensures in
     let table_is : c.deref-2.result.now ≡ c.in_ok-table.table.items = c.deref-2.ensures.value in
-    keyed_at Back share.edges (count + length c.in_ok-table.mirrors.items) (count + c.len.result) c.in_ok-table.table.items c.deref-2.result.now (omega (arith, c.len.ensures, c.in_ok-table.mirrors.ok.0)) table_is (keyed share first count c.args.marks.now c.in_ok-table.table.items c.in_ok-table.mirrors.items within vertices row marked numbered Back)
+    keyed_at Back share.edges (count + length c.in_ok-table.mirrors.items) (length c.in_ok-out.counts.items) c.in_ok-table.table.items c.deref-2.result.now (omega (arith, c.len.ensures, c.in_ok-table.mirrors.ok.0, c.in_ok-out.ensures.counts.long)) table_is (keyed share first count c.args.marks.now c.in_ok-table.table.items c.in_ok-table.mirrors.items within vertices row marked numbered Back)
+
+-- edges that lie together by another table
+together_at : (edges : List Edge) (table given : List ℕ) → given ≡ table → AreTogether (key_of Out table) edges → AreTogether (key_of Out given) edges
+together_at edges table given same is =
+    let P : List ℕ → Type 0 = λ xs. AreTogether (key_of Out xs) edges in
+    subst P (sym same) is
 
 sorted_at : (side : Side) (edges : List Edge) (keys others : ℕ) (table given : List ℕ) (arcs : Arcs) → keys ≡ others → table ≡ given → AreSorted side keys table edges arcs → AreSorted side others given edges arcs
 sorted_at side edges keys others table given arcs same_keys same_table is =
@@ -106,6 +111,7 @@ invariant_of-result c =
     let keys_are : count + c.len.result ≡ count + length c.in_ok-table.mirrors.items = omega (arith, c.len.ensures, c.in_ok-table.mirrors.ok.0) in
     let out_table : c.deref.result.now ≡ c.in_ok-table.table.items = c.deref.ensures.value in
     let back_table : c.deref-2.result.now ≡ c.in_ok-table.table.items = c.deref-2.ensures.value in
+    let by_source = together_at share.edges c.in_ok-table.table.items c.deref.result.now out_table (together share first count c.args.marks.now c.in_ok-table.table.items c.in_ok-table.mirrors.items within vertices row marked numbered c.requires.by_source) in
     let facts = c.in_ok-masters.ensures.facts in
     let is_share : IsShare share = record {
       is_host = c.requires.host;
@@ -130,8 +136,8 @@ invariant_of-result c =
     } in
     kept_fields share first count c.args.marks.now c.in_ok-table.table.items c.in_ok-table.mirrors.items within vertices row marked numbered is_share graph refl
     (ap (λ (a : Assignment). a.hosts) c.in_ok-masters.ensures.same) (ap (λ (a : Assignment). a.masters) c.in_ok-masters.ensures.same) c.requires.nodes refl refl refl
-    (sorted_at Out share.edges (count + c.len.result) (count + length c.in_ok-table.mirrors.items) c.deref.result.now c.in_ok-table.table.items c.in_ok-out.out keys_are out_table c.in_ok-out.ensures.sorted)
-    (sorted_at Back share.edges (count + c.len.result) (count + length c.in_ok-table.mirrors.items) c.deref-2.result.now c.in_ok-table.table.items c.in_ok-back.back keys_are back_table c.in_ok-back.ensures)
+    (sorted_at Out share.edges (count + c.len.result) (count + length c.in_ok-table.mirrors.items) c.deref.result.now c.in_ok-table.table.items c.in_ok-out.out keys_are out_table (c.in_ok-out.ensures.sorted by_source))
+    (sorted_at Back share.edges (length c.in_ok-out.counts.items) (count + length c.in_ok-table.mirrors.items) c.deref-2.result.now c.in_ok-table.table.items c.in_ok-back.back (c.in_ok-out.ensures.counts.long ∙ keys_are) back_table c.in_ok-back.ensures)
 
 pub returns : goal.returns
 returns c =
@@ -146,6 +152,7 @@ returns c =
     let keys_are : count + c.len.result ≡ count + length c.in_ok-table.mirrors.items = omega (arith, c.len.ensures, c.in_ok-table.mirrors.ok.0) in
     let out_table : c.deref.result.now ≡ c.in_ok-table.table.items = c.deref.ensures.value in
     let back_table : c.deref-2.result.now ≡ c.in_ok-table.table.items = c.deref-2.ensures.value in
+    let by_source = together_at share.edges c.in_ok-table.table.items c.deref.result.now out_table (together share first count c.args.marks.now c.in_ok-table.table.items c.in_ok-table.mirrors.items within vertices row marked numbered c.requires.by_source) in
     let facts = c.in_ok-masters.ensures.facts in
     let is_share : IsShare share = record {
       is_host = c.requires.host;
@@ -170,5 +177,5 @@ returns c =
     } in
     stands share first count c.args.marks.now c.in_ok-table.table.items c.in_ok-table.mirrors.items within vertices row marked numbered is_share graph refl
     (ap (λ (a : Assignment). a.hosts) c.in_ok-masters.ensures.same) (ap (λ (a : Assignment). a.masters) c.in_ok-masters.ensures.same) c.requires.nodes refl refl refl
-    (sorted_at Out share.edges (count + c.len.result) (count + length c.in_ok-table.mirrors.items) c.deref.result.now c.in_ok-table.table.items c.in_ok-out.out keys_are out_table c.in_ok-out.ensures.sorted)
-    (sorted_at Back share.edges (count + c.len.result) (count + length c.in_ok-table.mirrors.items) c.deref-2.result.now c.in_ok-table.table.items c.in_ok-back.back keys_are back_table c.in_ok-back.ensures)
+    (sorted_at Out share.edges (count + c.len.result) (count + length c.in_ok-table.mirrors.items) c.deref.result.now c.in_ok-table.table.items c.in_ok-out.out keys_are out_table (c.in_ok-out.ensures.sorted by_source))
+    (sorted_at Back share.edges (length c.in_ok-out.counts.items) (count + length c.in_ok-table.mirrors.items) c.deref-2.result.now c.in_ok-table.table.items c.in_ok-back.back (c.in_ok-out.ensures.counts.long ∙ keys_are) back_table c.in_ok-back.ensures)
