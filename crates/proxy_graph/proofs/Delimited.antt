@@ -1,8 +1,8 @@
 -- Where the edges of each key start and end, and what stands between.
-use Rattle.std.proofs.Common.{◌≡◌, ◌≢◌, ℕ, ◌+◌, ◌-◌, ◌<◌, ◌≤◌, true, false, Bool, cond, ◌==◌, List, [], ◌∷◌, ◌++◌, length, map, take, drop, set, slice_index, slice_index_or, refl, sym, ◌∙◌, ap, arith, inl, inr, replicate, length-drop}
+use Rattle.std.proofs.Common.{◌≡◌, ◌≢◌, ℕ, ◌+◌, ◌-◌, ◌<◌, ◌≤◌, true, false, Bool, cond, ◌==◌, List, [], ◌∷◌, ◌++◌, length, map, take, drop, set, slice_index, slice_index_or, refl, sym, ◌∙◌, ap, arith, inl, inr, length-drop}
 use Rattle.std.specs.List.{All, filter}
 use Rattle.std.proofs.lemmas.Bool.{cases_eq, cases_lt, eq-eqb, ne_eqb}
-use Rattle.std.proofs.lemmas.List.{append-nil, length-map, length-set, length-take-le, take-append-drop, take-map, drop-map, get_or-take, get_or-drop, get_or_default, get_or-set_same, get_or-set_other, get_or-replicate, length-replicate}
+use Rattle.std.proofs.lemmas.List.{append-nil, length-map, length-set, length-take-le, take-append-drop, take-map, drop-map, get_or-take, get_or-drop, get_or_default, get_or-set_same, get_or-set_other}
 use Rattle.std.proofs.lemmas.List.Elements.{All-head, All-tail, filter-append}
 use Rattle.graph_model.specs.declared.edge.Edge.{Edge}
 use Rattle.graph_division.proofs.FileOrder.{filter_none}
@@ -108,35 +108,11 @@ module _ (key : Edge → ℕ) (keys : ℕ) (edges : List Edge) (i : ℕ) (within
       last_seen : ℕ
       last_seen = slice_index ends next - 1
 
--- before the first edge
-pub delimited_none : (key : Edge → ℕ) (keys : ℕ) (edges : List Edge) → AreDelimited key keys edges 0 (replicate keys 0) (replicate keys 0)
-delimited_none key keys edges = record {
-  started = length-replicate keys 0;
-  ended = length-replicate keys 0;
-  none = λ k low nothing. nothing;
-  some = λ k low something. absurd (something (zero_at k low));
-  within = λ k low. omega (arith, zero_at k low);
-  before = λ k j low early. absurd (omega (arith, early, zero_at k low));
-  inside = λ k j low from to. absurd (omega (arith, to, zero_at k low));
-  behind = λ k j low late below. absurd (omega (arith, below));
-}
-  where
-    zero_at : (k : ℕ) → k < keys → slice_index (replicate keys 0) k ≡ 0
-    zero_at k low = get_or-replicate keys k 0 0 low
-
 -- runs of edges so far: their limits fit, and tell where edges of one key stand if these lie side by side
 pub record KeepsRuns (key : Edge → ℕ) (keys : ℕ) (edges : List Edge) (end : ℕ) (starts ends : List ℕ) : Type 0 where
   pub started : length starts ≡ keys
   pub ended : length ends ≡ keys
   pub limits : AreTogether key edges → AreDelimited key keys edges end starts ends
-
--- before the first edge
-pub runs_none : (key : Edge → ℕ) (keys : ℕ) (edges : List Edge) → KeepsRuns key keys edges 0 (replicate keys 0) (replicate keys 0)
-runs_none key keys edges = record {
-  started = length-replicate keys 0;
-  ended = length-replicate keys 0;
-  limits = λ together. delimited_none key keys edges;
-}
 
 module _ (key : Edge → ℕ) (keys : ℕ) (edges : List Edge) (i : ℕ) (within : i < length edges) (known : key (edge_at edges i) < keys)
     (starts ends : List ℕ) (so_far : KeepsRuns key keys edges i starts ends) where
