@@ -35,6 +35,24 @@ pub(crate) fn next_by_jumps(locals: &[u32], bits: &UpdateBits, place: usize) -> 
 }
 
 /// The first updated position from `place` on: one of the next few, or else found from the set.
+fn next_by_steps(locals: &[u32], bits: &UpdateBits, place: usize) -> Option<u32>
+    requires within { place ≤ length locals.now }
+    requires short { length locals.now < 2 ^ 32 }
+    requires rise { IsStrictlyIncreasing locals.now }
+    requires has_bits { All (λ local. local < length bits.now) locals.now }
+    ensures { IsNextMember (marks_at bits.now locals.now) place result }
+{
+    let near = locals.len().min(place + NEAR);
+    for position in place..near {
+        if bits.test(locals[position]) {
+            return Some(position as u32);
+        }
+    }
+    next_by_jumps(locals, bits, near)
+}
+
+/// The first updated position from `place` on. Where the list goes on without a gap up to the set's next
+/// member, that member's place is as far ahead as its number: so it is in each list that is a run.
 pub(crate) fn next_updated(locals: &[u32], bits: &UpdateBits, place: u32) -> Option<u32>
     requires within { place ≤ length locals.now }
     requires short { length locals.now < 2 ^ 32 }
@@ -43,11 +61,13 @@ pub(crate) fn next_updated(locals: &[u32], bits: &UpdateBits, place: u32) -> Opt
     ensures { IsNextMember (marks_at bits.now locals.now) place result }
 {
     let place = place as usize;
-    let near = locals.len().min(place + NEAR);
-    for position in place..near {
-        if bits.test(locals[position]) {
-            return Some(position as u32);
-        }
+    if place >= locals.len() {
+        return None;
     }
-    next_by_jumps(locals, bits, near)
+    let member = bits.next_from(locals[place])?;
+    let ahead = place + (member - locals[place]) as usize;
+    if ahead < locals.len() && locals[ahead] == member {
+        return Some(ahead as u32);
+    }
+    next_by_steps(locals, bits, place)
 }

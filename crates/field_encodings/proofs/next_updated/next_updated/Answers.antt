@@ -1,17 +1,12 @@
-use Rattle.std.proofs.Common.{◌≡◌, ◌<◌, length, arith, inl, inr, sym, ◌∙◌, ap}
-use Rattle.std.proofs.lemmas.Bool.{cases_lt}
-use Rattle.list_laws.specs.Members.{has_member}
-use Rattle.field_encodings.specs.Lists.{marks_at}
-use Rattle.field_encodings.proofs.NextUpdated.{mark_here}
+use Rattle.std.proofs.Common.{arith, get_or, ◌+◌, ◌-◌}
+use Rattle.field_encodings.proofs.NextUpdated.{jump_none, jump_found}
 use Rattle.field_encodings.proofs.next_updated.next_updated.Goals as goal
 
-pub loop-position-preserved : goal.loop-position-preserved
-loop-position-preserved c =
-    λ k a b. elim (cases_lt k c.loop-position.position) [
-      | inl low ↦ c.loop-position.invariant k a low
-      | inr high ↦
-          let same : k ≡ c.loop-position.position = omega arith in
-          let inside : c.loop-position.position < length c.args.locals.now = omega (arith, c.loop-position-test.true, c.min-near.ensures) in
-          ap (has_member (marks_at c.args.bits.now c.args.locals.now)) same
-          ∙ mark_here c.args.bits.now c.args.locals.now c.loop-position.position inside ∙ sym c.test.ensures ∙ c.if-test.false
-    ]
+pub returns-in_err-member : goal.returns-in_err-member
+returns-in_err-member c =
+    rw c.from_residual.ensures
+    (jump_none c.args.bits.now c.args.locals.now c.requires.rise c.args.place c.in_err-member.ensures.next)
+
+pub returns-then-locals-ahead : goal.returns-then-locals-ahead
+returns-then-locals-ahead c =
+    jump_found c.args.bits.now c.args.locals.now c.requires.rise c.args.place (c.args.place + (c.in_ok-member.member - get_or c.args.locals.now c.args.place 0)) c.in_ok-member.member (omega arith) c.if-ahead-locals.true c.if-locals-ahead.true c.in_ok-member.ensures.next
