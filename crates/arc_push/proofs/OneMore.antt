@@ -1,6 +1,6 @@
 -- One item more reaches a proxy: what was brought, and who has news.
 use Rattle.std.proofs.Common.{◌≡◌, ◌≢◌, ℕ, ◌<◌, ◌≤◌, Bool, true, false, not, cond, ◌||◌, ◌==◌, ltb, List, length, get_or, set, refl, sym, ap, subst, ◌∙◌, arith, inl, inr}
-use Rattle.std.proofs.lemmas.Bool.{true≢false, cases_Bool, cases_eq, eq-eqb, ne_eqb, lt-ltb, le-ltb, false_from_ne_true}
+use Rattle.std.proofs.lemmas.Bool.{true≢false, cases_Bool, or_right, cases_eq, eq-eqb, ne_eqb, lt-ltb, le-ltb, false_from_ne_true}
 use Rattle.std.proofs.lemmas.List.{get_or-set_other, length-set}
 use Rattle.std.proofs.lemmas.Grind.{get_or-set_at}
 use Rattle.list_laws.specs.Members.{has_member}
@@ -76,6 +76,12 @@ module _ {Item : Type 0} {IsItem : Item → Type 0} {reducer : Reducer Item} (la
       has_bit : head < length news
       has_bit = omega (arith, done.news_long, begins.news_long)
 
+      -- each item is a value so far
+      had_value : (l : ℕ) (d : Item) → l < proxies → IsItem (get_or items l d)
+      had_value l d known =
+          let P : Item → Type 0 = IsItem in
+          subst P (sym (done.brings l d y known)) (laws.combine_is_value (get_or start l d) (before y l) (start_value l d known) (done.is_value y l known))
+
       -- what was brought to a proxy, with the item
       abbrev after : Shown → ℕ → Item
       after none l = reducer.combine (before none l) (cond (head == l) item reducer.identity)
@@ -104,23 +110,55 @@ module _ {Item : Type 0} {IsItem : Item → Type 0} {reducer : Reducer Item} (la
             ∙ sym (ap (λ b. reducer.combine (get_or start l d) (reducer.combine (before none l) (cond b item reducer.identity))) (ne_eqb head l other))
       ]
 
+      -- where the item changes nothing, its proxy has what it had, and news as before
+      same_before : (l : ℕ) (d : Item) → l < proxies → reducer.same (reducer.combine (get_or items l d) item) (get_or items l d) ≡ true → reducer.combine (get_or items l d) item ≡ get_or items l d
+      same_before l d known same =
+          let value : IsItem (get_or items l d) = had_value l d known in
+          (laws.same_tells (reducer.combine (get_or items l d) item) (get_or items l d) (laws.combine_is_value (get_or items l d) item value is_item) value).0 same
+
       -- a mirror's news are right after the item
       grew_here : (l : ℕ) (d : Item) → l ≡ head → masters ≤ l → l < proxies → has_member new_news l ≡ not (reducer.same (get_or new_items l d) (get_or start l d))
       grew_here l d same mirror known =
+          let old : Item = get_or items l d in
+          let new : Item = reducer.combine old item in
           news_here l d same
-          ∙ ap (λ b. has_news reducer b (has_member news l) (get_or items l d) (reducer.combine (get_or items l d) item)) (le-ltb l masters mirror)
-          ∙ (elim (cases_Bool reducer.keeps) [
-            | inl keeps ↦
-                ap (λ b. cond b (has_member news l || not (reducer.same (reducer.combine (get_or items l d) item) (get_or items l d))) (not (reducer.same (reducer.combine (get_or items l d) item) reducer.identity))) keeps
-                ∙ ap (λ b. b || not (reducer.same (reducer.combine (get_or items l d) item) (get_or items l d))) (done.grew l d mirror known)
-                ∙ ap (λ t. not (reducer.same t (get_or start l d)) || not (reducer.same (reducer.combine t item) t)) (done.brings l d y known)
-                ∙ change_stays keeps (get_or start l d) (before y l) item (start_value l d known) (done.is_value y l known) is_item
-                ∙ sym (ap (λ t. not (reducer.same (reducer.combine t item) (get_or start l d))) (done.brings l d y known))
-            | inr forgets ↦
-                ap (λ b. cond b (has_member news l || not (reducer.same (reducer.combine (get_or items l d) item) (get_or items l d))) (not (reducer.same (reducer.combine (get_or items l d) item) reducer.identity))) forgets
-                ∙ ap (λ s. not (reducer.same (reducer.combine (get_or items l d) item) s)) (sym (begins.nothing_kept forgets l d mirror known))
+          ∙ ap (λ b. has_news reducer b (has_member news l) old new) (le-ltb l masters mirror)
+          ∙ (elim (cases_Bool (reducer.same new old)) [
+            | inl stays ↦
+                ap (λ b. cond b (has_member news l) (reducer.keeps || not (reducer.same new reducer.identity))) stays
+                ∙ done.grew l d mirror known
+                ∙ sym (ap (λ t. not (reducer.same t (get_or start l d))) (same_before l d known stays))
+            | inr changes ↦
+                ap (λ b. cond b (has_member news l) (reducer.keeps || not (reducer.same new reducer.identity))) changes
+                ∙ (elim (cases_Bool reducer.keeps) [
+                  | inl keeps ↦
+                      ap (λ b. b || not (reducer.same new reducer.identity)) keeps
+                      ∙ sym (ap (λ b. not (reducer.same old (get_or start l d)) || not b) changes ∙ or_right (not (reducer.same old (get_or start l d))) true refl)
+                      ∙ ap (λ t. not (reducer.same t (get_or start l d)) || not (reducer.same (reducer.combine t item) t)) (done.brings l d y known)
+                      ∙ change_stays keeps (get_or start l d) (before y l) item (start_value l d known) (done.is_value y l known) is_item
+                      ∙ sym (ap (λ t. not (reducer.same (reducer.combine t item) (get_or start l d))) (done.brings l d y known))
+                  | inr forgets ↦
+                      ap (λ b. b || not (reducer.same new reducer.identity)) forgets
+                      ∙ ap (λ s. not (reducer.same new s)) (sym (begins.nothing_kept forgets l d mirror known))
+                ])
           ])
           ∙ sym (ap (λ n. not (reducer.same n (get_or start l d))) (here l d same))
+
+      -- a master without news has what it had
+      untouched_here : (l : ℕ) (d : Item) → l ≡ head → l < masters → l < proxies → has_member new_news l ≡ false
+          → (has_member first l ≡ false) × (get_or new_items l d ≡ get_or start l d)
+      untouched_here l d same master known none =
+          let old : Item = get_or items l d in
+          let new : Item = reducer.combine old item in
+          let told : has_news reducer true (has_member news l) old new ≡ false
+          = ap (λ b. has_news reducer b (has_member news l) old new) (sym (lt-ltb l masters master)) ∙ sym (news_here l d same) ∙ none in
+          elim (cases_Bool (reducer.same new old)) [
+            | inl stays ↦
+                let was = done.untouched l d master (sym (ap (λ b. cond b (has_member news l) (reducer.keeps || true)) stays) ∙ told) in
+                (was.0, here l d same ∙ same_before l d known stays ∙ was.1)
+            | inr changes ↦
+                absurd (true≢false (sym (or_right reducer.keeps true refl) ∙ sym (ap (λ b. cond b (has_member news l) (reducer.keeps || true)) changes) ∙ told))
+          ]
 
       -- so they are right for all
       pub one_more : Brings IsItem reducer masters proxies after start first new_items new_news
@@ -134,7 +172,7 @@ module _ {Item : Type 0} {IsItem : Item → Type 0} {reducer : Reducer Item} (la
           | inr apart ↦ news_there l apart ∙ done.grew l d mirror known ∙ sym (ap (λ n. not (reducer.same n (get_or start l d))) (there l d apart))
         ];
         untouched = λ l d master none. elim (cases_eq l head) [
-          | inl same ↦ absurd (true≢false (sym (news_here l d same ∙ ap (λ b. has_news reducer b (has_member news l) (get_or items l d) (reducer.combine (get_or items l d) item)) (lt-ltb l masters master)) ∙ none))
+          | inl same ↦ untouched_here l d same master (subst (λ k. k < proxies) (sym same) within) none
           | inr apart ↦ let was = done.untouched l d master (sym (news_there l apart) ∙ none) in (was.0, there l d apart ∙ was.1)
         ];
       }

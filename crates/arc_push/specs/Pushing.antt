@@ -5,11 +5,12 @@ use Rattle.list_laws.specs.Members.{has_member}
 use Rattle.reduce_laws.specs.ReductionLaws.{Reducer, combined}
 use Rattle.reduce_laws.specs.ProgramLaws.{Steps}
 
--- Whether a proxy has news once an item reached it. A master has. A mirror that keeps its items has news
--- where it had before or its item changed; another one where its item is no longer the identity.
+-- Whether a proxy has news once an item was combined into its own: as before, where that changed nothing.
+-- Else a master has, and so has a mirror that keeps its items; another mirror has where its item is no
+-- longer the identity.
 abbrev pub has_news : {Item : Type 0} → Reducer Item → (is_master was : Bool) → (old new : Item) → Bool
 has_news reducer is_master was old new =
-    if is_master then true else (if reducer.keeps then was || not (reducer.same new old) else not (reducer.same new reducer.identity))
+    if reducer.same new old then was else (reducer.keeps || (is_master || not (reducer.same new reducer.identity)))
 
 -- what arcs out of one tail, each a head and a weight, bring to a proxy, where the tail shows this value
 abbrev pub brought_by : {Item State Shown : Type 0} → Reducer Item → Steps Item State Shown → Shown → List (ℕ × ℕ) → ℕ → Item

@@ -12,7 +12,9 @@
 //! - a mirror whose item changed, and no other. Where the reduction keeps, an item that changed never
 //!   comes back, so it is enough to look at each change; where it does not, a mirror begins with the
 //!   identity and has news while its item is another;
-//! - a master that an arc reached, or that was in the set before.
+//! - a master whose item changed on the way, or that was in the set before.
+//!
+//! Where nothing changes nothing is written, and an item that is the identity costs no look at its head.
 //!
 //! With costs, of which the least counts, a tail that shows 1 brings 5 along an arc of weight 4. A mirror
 //! with item 9 then has 5 and news; one with item 3 keeps it and has none.

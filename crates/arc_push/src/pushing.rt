@@ -16,7 +16,7 @@ use update_bits::UpdateBits;
 /// its head. Shown values, items and the sets go by local number, and have a place for each proxy.
 ///
 /// A mirror gets into the set `news` exactly where its item changed. It is not there before, and where
-/// items are not kept it has the identity. A master gets there where an arc reaches it.
+/// items are not kept it has the identity. A master gets there where its item changes on the way.
 pub fn push_awake<P: VertexProgram>(
     program: &P,
     graph: &LocalGraph,
@@ -85,7 +85,9 @@ fn push_along<P: VertexProgram>(
     }
 }
 
-/// Combines an item into that of the proxy `head`, which may get into the set of those that have news.
+/// Combines an item into that of the proxy `head`, which gets into the set of those that have news where
+/// its item changed. An item that changes nothing writes nothing, and the identity is not even compared
+/// with the proxy's item.
 fn combine_into<R: Reduction>(
     masters: u32,
     head: u32,
@@ -101,18 +103,18 @@ fn combine_into<R: Reduction>(
     ensures news { (d : R.Item) → news.new ≡ slice_set news.old head
         (has_news R.reducer (nat_lt head masters) (has_member news.old head) (slice_index_or items.old head d) (R.reducer.combine (slice_index_or items.old head d) item)) }
 {
+    if item == R::identity() {
+        return;
+    }
     let old = items[head as usize];
     let new = R::combine(old, item);
+    if new == old {
+        return;
+    }
     items[head as usize] = new;
-    if head < masters {
+    if R::KEEPS || head < masters || new != R::identity() {
         news.set(head);
-    } else if R::KEEPS {
-        if new != old {
-            news.set(head);
-        }
-    } else if new == R::identity() {
-        news.clear(head);
     } else {
-        news.set(head);
+        news.clear(head);
     }
 }
