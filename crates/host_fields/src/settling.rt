@@ -7,7 +7,7 @@ use reduce_laws::{Reduction, VertexProgram};
 use update_bits::UpdateBits;
 
 /// Settles one master with its sum, which is then the identity. It shows what its state then shows, in
-/// the next round, and is awake there where that is new.
+/// the next round, and is awake there where that is new; else what it shows stands there already.
 fn settle_one<P: VertexProgram>(
     program: &P,
     local: u32,
@@ -23,6 +23,10 @@ fn settle_one<P: VertexProgram>(
     requires has_next { local < length next.old }
     requires has_bit { local < length awake_next.old }
     requires asleep { has_member awake_next.old local ≡ false }
+    requires is_state { (s : P.State) → P.IsState (slice_index_or states.old local s) }
+    requires is_item { (d : P.Red.Item) → P.Red.Item.IsValue (slice_index_or items.old local d) }
+    requires is_shown { All P.Shown.IsValue shown.now }
+    requires quiet { (y : P.Shown) → slice_index_or next.old local y ≡ slice_index_or shown.now local y }
     ensures state { (s : P.State) (d : P.Red.Item) → states.new
         ≡ slice_set states.old local ((P.steps program.now).settle (slice_index_or states.old local s) (slice_index_or items.old local d)) }
     ensures sum { items.new ≡ slice_set items.old local P.Red.reducer.identity }
@@ -35,8 +39,8 @@ fn settle_one<P: VertexProgram>(
     let value = program.shown(state);
     states[place] = state;
     items[place] = P::Red::identity();
-    next[place] = value;
     if shown[place] != value {
+        next[place] = value;
         awake_next.set(local);
     }
 }
