@@ -1,11 +1,13 @@
 -- Numbers in a row: how a list that rises is told to be one, and what is left of a set without them.
 use Rattle.std.proofs.Common.{◌≡◌, ◌<◌, ◌≤◌, ◌+◌, ◌-◌, ℕ, zero, suc, Bool, true, false, List, [], ◌∷◌, length, get_or, refl, sym, ap, ◌∙◌, arith, inl, inr}
-use Rattle.std.specs.Prelude.{nat_le, nat_lt, ◌&&◌, not}
+use Rattle.std.specs.Prelude.{nat_le, nat_lt, ◌&&◌, ◌||◌, not}
 use Rattle.std.specs.List.{range_with_len}
 use Rattle.std.specs.List.Sorted.{IsStrictlyIncreasing}
 use Rattle.std.proofs.Math.Bool.{and-false, and-true}
-use Rattle.std.proofs.lemmas.Bool.{cases_eq, cases_lt, lt-ltb, le-ltb, lt-leb, le-leb}
+use Rattle.std.proofs.lemmas.Bool.{cases_eq, cases_lt, lt-ltb, le-ltb, lt-leb, le-leb, ne_eqb}
 use Rattle.std.proofs.lemmas.List.{length-set}
+use Rattle.list_laws.specs.Among.{is_among}
+use Rattle.list_laws.proofs.Among.{among_range}
 use Rattle.list_laws.specs.Members.{has_member, without_member, without_all}
 use Rattle.list_laws.specs.Rising.{Rises}
 use Rattle.list_laws.proofs.Members.{same_set, has_member-without_same, has_member-without_other}
@@ -98,3 +100,23 @@ cleared_row bits new numbers first count end row last fits len each =
                 ∙ sym (outside first count l bits (λ _. omega arith))
           ]
         ]
+
+-- ---- the numbers of a row
+
+-- a number outside the row is none of them
+none_of_row : (first count l : ℕ) → (first ≤ l → first + count ≤ l) → is_among (range_with_len first count) l ≡ false
+none_of_row first zero l apart = refl
+none_of_row first (suc count) l apart =
+    ap (λ b. b || is_among (range_with_len (first + 1) count) l) (ne_eqb first l (λ e. let past : first + suc count ≤ l = apart (omega arith) in omega arith))
+    ∙ none_of_row (first + 1) count l (λ since. let past : first + suc count ≤ l = apart (omega arith) in omega arith)
+
+-- so a row has the numbers from its first to its last
+pub row_has : (first count last l : ℕ) → last + 1 ≡ first + count → is_among (range_with_len first count) l ≡ (nat_le first l && nat_le l last)
+row_has first count last l end =
+    elim (cases_lt l first) [
+      | inl low ↦ none_of_row first count l (λ since. absurd (omega arith)) ∙ sym (ap (λ b. b && nat_le l last) (lt-leb first l low))
+      | inr since ↦ elim (cases_lt last l) [
+        | inl high ↦ none_of_row first count l (λ _. omega arith) ∙ sym (ap (λ b. nat_le first l && b) (lt-leb l last high) ∙ and-false (nat_le first l))
+        | inr until ↦ among_range first count l since (omega arith) ∙ sym (ap (λ b. nat_le first l && b) (le-leb l last until) ∙ and-true (nat_le first l) ∙ le-leb first l since)
+      ]
+    ]

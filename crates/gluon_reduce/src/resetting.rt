@@ -1,5 +1,5 @@
 //! Makes the mirrors of a list ready for the next round.
-ghost use Rattle.std.specs.Prelude.{◌≡◌, ◌<◌, ◌≤◌, ℕ, true, if◌then◌else◌, length, slice_index};
+ghost use Rattle.std.specs.Prelude.{◌≡◌, ◌<◌, ◌≤◌, ◌&&◌, ℕ, true, nat_le, if◌then◌else◌, length, slice_index};
 ghost use Rattle.std.specs.List.{All, slice_index_or, range_with_len};
 ghost use Rattle.std.specs.List.Sorted.{IsStrictlyIncreasing};
 ghost use Rattle.list_laws.specs.Among.{is_among};
@@ -51,8 +51,37 @@ fn is_run(locals: &[u32]) -> bool
     (locals[count - 1] - locals[0]) as usize == count - 1
 }
 
-/// Gives each proxy of a list the identity.
+/// Gives each proxy of a list, which rises, the identity: all at once where its numbers stand in a row.
 pub(crate) fn set_back<R: Reduction>(locals: &[u32], kept: &mut [R::Item])
+    requires rise { IsStrictlyIncreasing locals.now }
+    requires has_items { All (λ local. local < length kept.old) locals.now }
+    ensures { (l : ℕ) (d : R.Item) → slice_index_or kept.new l d
+        ≡ (if is_among locals.now l then R.reducer.identity else slice_index_or kept.old l d) }
+{
+    if !is_run(locals) {
+        set_back_each::<R>(locals, kept);
+        return;
+    }
+    let proxies = kept.len();
+    let last = locals[locals.len() - 1];
+    prove!((last as usize) < proxies);
+    set_back_row::<R>(locals[0], last, kept);
+}
+
+/// Gives the proxies from `first` to `last` the identity.
+fn set_back_row<R: Reduction>(first: u32, last: u32, kept: &mut [R::Item])
+    requires within { last < length kept.old }
+    requires order { first ≤ last }
+    ensures { (l : ℕ) (d : R.Item) → slice_index_or kept.new l d
+        ≡ (if nat_le first l && nat_le l last then R.reducer.identity else slice_index_or kept.old l d) }
+{
+    for place in first as usize..last as usize + 1 {
+        kept[place] = R::identity();
+    }
+}
+
+/// Gives each proxy of a list the identity.
+fn set_back_each<R: Reduction>(locals: &[u32], kept: &mut [R::Item])
     requires { All (λ local. local < length kept.old) locals.now }
     ensures { (l : ℕ) (d : R.Item) → slice_index_or kept.new l d
         ≡ (if is_among locals.now l then R.reducer.identity else slice_index_or kept.old l d) }

@@ -1,6 +1,6 @@
 use Rattle.std.proofs.Common.{◌≡◌, ℕ, cond, take, get_or}
 use Rattle.list_laws.specs.Among.{is_among}
-use Rattle.gluon_reduce.proofs.resetting.set_back.Given as goal
+use Rattle.gluon_reduce.proofs.resetting.set_back_each.Given as goal
 
 -- the proxies that were passed have the identity
 abbrev pub invariant-loop-local : goal.invariant-loop-local
