@@ -3,9 +3,10 @@
 //!
 //! A mirror that is written on its host is reduced to its master's host, and one that is read there is
 //! broadcast to it; no other mirror takes part. [`Memo::open`] finds a host's own mirrors of both kinds.
-//! [`memo_payload`] tells another host those that have their masters there, and [`read_memo`] reads such
-//! a payload on that host: after [`Memo::accept`] both hosts hold the same vertices in the same order,
-//! so a later packet names a place in a list and no vertex.
+//! [`memo_payload`] tells another host those that have their masters there, as [`payload_of`] does where
+//! their lists are at hand, and [`read_memo`] reads such a payload on that host: after [`Memo::accept`]
+//! both hosts hold the same vertices in the same order, so a later packet names a place in a list and no
+//! vertex.
 //!
 //! | bytes | of a payload from host a to host b |
 //! |---|---|
@@ -33,7 +34,7 @@ pub use laws::memos_fit;
 pub use memo::{ListKind, Memo};
 pub use memo_fault::MemoFault;
 pub use memo_lists::MemoLists;
-pub use payload::memo_payload;
+pub use payload::{memo_payload, payload_of};
 pub use proxy_list::ProxyList;
 pub use reading::read_memo;
 

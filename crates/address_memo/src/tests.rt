@@ -3,7 +3,7 @@ ghost use Rattle.std.specs.Prelude.{◌≡◌, ◌<◌, ◌≤◌, length, IfOk,
 ghost use Rattle.graph_model.specs.Graph.{IsWithin};
 ghost use Rattle.cusp_rules.specs.Formulas.{IsStarts};
 
-use crate::{ListKind, Memo, MemoFault, memo_payload, read_memo};
+use crate::{ListKind, Memo, MemoFault, memo_payload, payload_of, read_memo};
 use cusp_rules::{MasterRule, Masters};
 use graph_model::{Edge, Way};
 use proxy_graph::LocalGraph;
@@ -82,6 +82,8 @@ fn a_payload_is_read_where_it_goes(rt: HostRuntime) -> Result<(), Fail> {
     let bytes = memo_payload(rt.alloc(), &sender, Way::Outward, 1)?;
     let want: [u8; 16] = [2, 0, 0, 0, 0, 0, 0, 0, 1, 0, 0, 0, 2, 0, 0, 0];
     assert_eq!(rt; bytes.as_slice(), want.as_slice());
+    let same = payload_of(rt.alloc(), &[1, 2], &[])?;
+    assert_eq!(rt; same.as_slice(), want.as_slice());
     let own = Memo::open(rt.alloc(), &sender, Way::Outward)?;
     assert_eq!(rt; own.list(ListKind::ReduceTo, 1).locals(), [1, 2].as_slice());
     assert!(rt; own.list(ListKind::SpreadFrom, 1).globals().is_empty());
