@@ -1,5 +1,5 @@
 //! A host's own lists: the mirrors that it shares with each peer.
-ghost use Rattle.std.specs.Prelude.{◌≡◌, ℕ, ◌+◌, ◌-◌, ◌<◌, ◌≤◌, length, map, IfOk};
+ghost use Rattle.std.specs.Prelude.{◌≡◌, ℕ, ◌+◌, ◌<◌, ◌≤◌, length, map, IfOk};
 ghost use Rattle.std.specs.List.{range_with_len};
 ghost use Rattle.graph_division.specs.Shares.{masters_here, nodes_of, proxies_here};
 ghost use Rattle.address_memo.specs.Memos.{proxies_of};
@@ -31,22 +31,8 @@ fn mirrors_from(graph: &LocalGraph, peer: u16) -> u32
     low
 }
 
-/// How many of these proxies take part in a leg.
-fn count_taken(graph: &LocalGraph, way: Way, leg: Leg, first: u32, end: u32) -> u32
-    requires order { first ≤ end }
-    requires within { end ≤ length (proxies_here graph.now) }
-    ensures { result ≤ end - first }
-{
-    let mut count = 0;
-    for lid in first..end {
-        if takes_part(graph, way, leg, lid) {
-            count += 1;
-        }
-    }
-    count
-}
-
-/// The mirrors on this host that take part in a leg and have their masters on a peer.
+/// The mirrors on this host that take part in a leg and have their masters on a peer. Their list holds
+/// no more memory than it needs.
 pub(crate) fn own_list(
     alloc: Global,
     graph: &LocalGraph,
@@ -61,15 +47,18 @@ pub(crate) fn own_list(
     let _ = graph.hosts();
     let first = mirrors_from(graph, peer);
     let end = mirrors_from(graph, peer + 1);
-    let count = count_taken(graph, way, leg, first, end) as usize;
-    let mut locals = Vec::with_capacity(alloc, count)?;
-    let mut globals = Vec::with_capacity(alloc, count)?;
+    // All may take part; what is not needed is given back.
+    let most = (end - first) as usize;
+    let mut locals = Vec::with_capacity(alloc, most)?;
+    let mut globals = Vec::with_capacity(alloc, most)?;
     for lid in first..end {
         if takes_part(graph, way, leg, lid) {
             locals.push(lid)?;
             globals.push(graph.global(lid))?;
         }
     }
+    locals.shrink_to_fit();
+    globals.shrink_to_fit();
     Ok(ProxyList::new(locals, globals))
 }
 

@@ -10,9 +10,6 @@ use Rattle.address_memo.proofs.Listing.{listed_whole, listed_are_proxies}
 use Rattle.address_memo.proofs.own_lists.own_list.Goals as goal
 use Rattle.address_memo.proofs.own_lists.own_list.Goals.{then-takes_part+in_ok-push+in_ok-push-2, else-takes_part}
 
-pub count_taken-count-requires-clause-order : goal.count_taken-count-requires-clause-order
-count_taken-count-requires-clause-order c = in_order c.args.leg c.args.way c.args.graph.now c.hosts.ensures.facts c.args.peer c.mirrors_from-first.result c.mirrors_from-end.result c.mirrors_from-first.ensures c.mirrors_from-end.ensures
-
 pub loop-lid-preserved : goal.loop-lid-preserved
 loop-lid-preserved c =
     let f : ℕ → ℕ = vertex_at c.args.graph.now in
@@ -40,21 +37,27 @@ new-requires c =
     let last = c.loop-lid.auto.lid-end (in_order c.args.leg c.args.way c.args.graph.now c.hosts.ensures.facts c.args.peer c.mirrors_from-first.result c.mirrors_from-end.result c.mirrors_from-first.ensures c.mirrors_from-end.ensures) in
     let done = c.loop-lid-test.false in
     let end : c.loop-lid.lid ≡ c.mirrors_from-end.result = omega arith in
-    listed_are_proxies c.args.leg c.args.way c.args.graph.now c.hosts.ensures.facts c.args.peer c.mirrors_from-first.result c.mirrors_from-end.result c.mirrors_from-first.ensures c.mirrors_from-end.ensures c.loop-lid.lid end c.loop-lid.locals.items c.loop-lid.globals.items c.loop-lid.invariant.locals c.loop-lid.invariant.globals
+    let listed = c.shrink_to_fit.ensures.items ∙ c.loop-lid.invariant.locals in
+    let mapped = c.shrink_to_fit-2.ensures.items ∙ c.loop-lid.invariant.globals ∙ ap (map (vertex_at c.args.graph.now)) (sym c.shrink_to_fit.ensures.items) in
+    listed_are_proxies c.args.leg c.args.way c.args.graph.now c.hosts.ensures.facts c.args.peer c.mirrors_from-first.result c.mirrors_from-end.result c.mirrors_from-first.ensures c.mirrors_from-end.ensures c.loop-lid.lid end c.shrink_to_fit.new.self.items c.shrink_to_fit-2.new.self.items listed mapped
 
 pub returns-clause-list : goal.returns-clause-list
 returns-clause-list c =
     let last = c.loop-lid.auto.lid-end (in_order c.args.leg c.args.way c.args.graph.now c.hosts.ensures.facts c.args.peer c.mirrors_from-first.result c.mirrors_from-end.result c.mirrors_from-first.ensures c.mirrors_from-end.ensures) in
     let done = c.loop-lid-test.false in
     let end : c.loop-lid.lid ≡ c.mirrors_from-end.result = omega arith in
+    let listed = c.shrink_to_fit.ensures.items ∙ c.loop-lid.invariant.locals in
+    let mapped = c.shrink_to_fit-2.ensures.items ∙ c.loop-lid.invariant.globals ∙ ap (map (vertex_at c.args.graph.now)) (sym c.shrink_to_fit.ensures.items) in
     c.new.ensures
-    ∙ listed_whole c.args.leg c.args.way c.args.graph.now c.hosts.ensures.facts c.args.peer c.mirrors_from-first.result c.mirrors_from-end.result c.mirrors_from-first.ensures c.mirrors_from-end.ensures c.loop-lid.lid end c.loop-lid.locals.items c.loop-lid.globals.items c.loop-lid.invariant.locals c.loop-lid.invariant.globals
+    ∙ listed_whole c.args.leg c.args.way c.args.graph.now c.hosts.ensures.facts c.args.peer c.mirrors_from-first.result c.mirrors_from-end.result c.mirrors_from-first.ensures c.mirrors_from-end.ensures c.loop-lid.lid end c.shrink_to_fit.new.self.items c.shrink_to_fit-2.new.self.items listed mapped
 
 pub returns-clause-few : goal.returns-clause-few
 returns-clause-few c =
     let last = c.loop-lid.auto.lid-end (in_order c.args.leg c.args.way c.args.graph.now c.hosts.ensures.facts c.args.peer c.mirrors_from-first.result c.mirrors_from-end.result c.mirrors_from-first.ensures c.mirrors_from-end.ensures) in
     let done = c.loop-lid-test.false in
     let end : c.loop-lid.lid ≡ c.mirrors_from-end.result = omega arith in
+    let listed = c.shrink_to_fit.ensures.items ∙ c.loop-lid.invariant.locals in
+    let mapped = c.shrink_to_fit-2.ensures.items ∙ c.loop-lid.invariant.globals ∙ ap (map (vertex_at c.args.graph.now)) (sym c.shrink_to_fit.ensures.items) in
     let whole = c.new.ensures
-    ∙ listed_whole c.args.leg c.args.way c.args.graph.now c.hosts.ensures.facts c.args.peer c.mirrors_from-first.result c.mirrors_from-end.result c.mirrors_from-first.ensures c.mirrors_from-end.ensures c.loop-lid.lid end c.loop-lid.locals.items c.loop-lid.globals.items c.loop-lid.invariant.locals c.loop-lid.invariant.globals in
+    ∙ listed_whole c.args.leg c.args.way c.args.graph.now c.hosts.ensures.facts c.args.peer c.mirrors_from-first.result c.mirrors_from-end.result c.mirrors_from-first.ensures c.mirrors_from-end.ensures c.loop-lid.lid end c.shrink_to_fit.new.self.items c.shrink_to_fit-2.new.self.items listed mapped in
     subst (λ (list : Proxies). length list.globals ≤ nodes_of c.args.graph.now) (sym whole) (own_few c.args.leg c.args.way c.args.graph.now c.args.peer)
