@@ -1,14 +1,23 @@
 -- What an opened memo shows of the letters to post, and the letters that are posted so far.
-use Rattle.std.proofs.Common.{◌≡◌, ℕ, ◌+◌, ◌-◌, ◌<◌, Bool, true, false, not, ◌||◌, ◌==◌, List, [], ◌∷◌, ◌++◌, length, map, refl, sym, ap, ◌∙◌, arith, append_assoc}
+use Rattle.std.proofs.Common.{◌≡◌, ℕ, ◌+◌, ◌-◌, ◌^◌, ◌<◌, ◌≤◌, Bool, true, false, not, ◌||◌, ◌==◌, List, [], ◌∷◌, ◌++◌, length, map, refl, sym, ap, ◌∙◌, arith, append_assoc}
 use Rattle.std.specs.List.{filter, range_with_len}
 use Rattle.std.proofs.lemmas.List.{map-append}
-use Rattle.std.proofs.lemmas.List.FromFn.{get_or-map-range_with_len}
+use Rattle.std.proofs.lemmas.List.FromFn.{length-range_with_len, get_or-map-range_with_len}
 use Rattle.graph_model.specs.declared.edge.Way.{Way}
-use Rattle.graph_division.specs.Shares.{Share, seen}
+use Rattle.graph_model.specs.Graph.{most_nodes}
+use Rattle.graph_division.specs.Shares.{Share, IsShare, seen, nodes_of}
 use Rattle.address_memo.specs.Memos.{Memos, Proxies, none, list_at, proxies_of, own_reduce, own_spread, opened}
-use Rattle.address_memo.proofs.Filters.{picked_more, picked_same}
+use Rattle.address_memo.specs.Payload.{payload}
+use Rattle.address_memo.proofs.Filters.{length_picked, picked_more, picked_same}
 use Rattle.memo_exchange.specs.Asks.{has_news}
 use Rattle.memo_exchange.specs.Letters.{Sent, letter_to}
+
+-- vertices that are picked of a graph are so few that four bytes count them
+picked_short : (p : ℕ → Bool) (nodes : ℕ) (globals : List ℕ) → nodes ≤ most_nodes → globals ≡ filter p (range_with_len 0 nodes) → length globals < 2 ^ 32
+picked_short p nodes globals fit is =
+    let few = length_picked p (range_with_len 0 nodes) in
+    let long = length-range_with_len 0 nodes in
+    omega (arith, ap length is)
 
 module _ (way : Way) (share : Share) (memo : Memos) (peer : ℕ) (is : memo ≡ opened way share) (below : peer < share.hosts) where
   pub reduce_at : (list_at memo.reduce_to peer).globals ≡ own_reduce way share peer
@@ -34,6 +43,19 @@ module _ (way : Way) (share : Share) (memo : Memos) (peer : ℕ) (is : memo ≡ 
       let is_empty : (length (own_reduce way share peer) == 0) ≡ true = sym (told ∙ ap (λ (l : List ℕ). length l == 0) (same ∙ reduce_at)) ∙ nothing in
       ap not (told_other ∙ ap (λ (l : List ℕ). length l == 0) (same_other ∙ spread_at))
       ∙ sym (ap (λ b. not b || not (length (own_spread way share peer) == 0)) is_empty)
+
+  -- so short are the memo's lists
+  pub reduce_short : IsShare share → (globals : List ℕ) → globals ≡ (list_at memo.reduce_to peer).globals → length globals < 2 ^ 32
+  reduce_short facts globals same = picked_short _ (nodes_of share) globals facts.nodes_fit (same ∙ reduce_at)
+
+  pub spread_short : IsShare share → (globals : List ℕ) → globals ≡ (list_at memo.spread_from peer).globals → length globals < 2 ^ 32
+  spread_short facts globals same = picked_short _ (nodes_of share) globals facts.nodes_fit (same ∙ spread_at)
+
+  -- and what they say is the letter to the peer
+  pub told : (bytes reduce spread : List ℕ) → bytes ≡ payload reduce spread → reduce ≡ (list_at memo.reduce_to peer).globals → spread ≡ (list_at memo.spread_from peer).globals
+      → bytes ≡ payload (own_reduce way share peer) (own_spread way share peer)
+  told bytes reduce spread is_payload first second =
+      is_payload ∙ ap (λ (l : List ℕ). payload l spread) (first ∙ reduce_at) ∙ ap (payload (own_reduce way share peer)) (second ∙ spread_at)
 
 -- ---- letters that are posted
 

@@ -7,7 +7,7 @@ ghost use Rattle.memo_exchange.specs.Asks.{has_news};
 ghost use Rattle.memo_exchange.specs.Letters.{letters_of};
 
 use crate::letter::Letter;
-use address_memo::{ListKind, Memo, memo_payload};
+use address_memo::{ListKind, Memo, payload_of};
 use graph_model::Way;
 use proxy_graph::LocalGraph;
 use std::alloc::{AllocError, Global};
@@ -36,7 +36,9 @@ fn post_from(
     let host = graph.host();
     for to in 0..graph.hosts() {
         if tells(graph, way, memo, to) {
-            let bytes = memo_payload(alloc, graph, way, to)?;
+            let reduce = memo.list(ListKind::ReduceTo, to).globals();
+            let spread = memo.list(ListKind::SpreadFrom, to).globals();
+            let bytes = payload_of(alloc, reduce, spread)?;
             mail.push(Letter::new(host, to, bytes))?;
         }
     }
