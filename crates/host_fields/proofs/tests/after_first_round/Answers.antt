@@ -1,4 +1,5 @@
-use Rattle.std.proofs.Common.{◌<◌, length, get_or, sym, ap, ◌∙◌, arith}
+use Rattle.std.proofs.Common.{◌<◌, length, get_or, sym, ap, subst, ◌∙◌, arith}
+use Rattle.std.specs.List.{All}
 use Rattle.graph_division.specs.Shares.{masters_here, proxies_here}
 use Rattle.host_fields.proofs.tests.after_first_round.Goals as goal
 
@@ -14,3 +15,6 @@ settle_news-requires-clause-quiet g c = λ l y h.
     let proxy : l < length (proxies_here c.args.graph.now) = omega (arith, c.masters-masters.ensures.among) in
     ap (λ xs. get_or xs l y) c.deref_mut-4.ensures.value ∙ c.in_ok-next.ensures.shown.start l y proxy
     ∙ sym (ap (λ xs. get_or xs l y) c.deref-2.ensures.value ∙ c.in_ok-shown.ensures.shown.start l y proxy)
+
+pub settle_news-requires-clause-next_are : goal.settle_news-requires-clause-next_are
+settle_news-requires-clause-next_are g c = subst (All g.P.Shown.Word.IsValue) (sym c.deref_mut-4.ensures.value) c.in_ok-next.ensures.are_shown
