@@ -153,7 +153,7 @@ next_member count words i (Some m) h first =
 -- ---- members word by word
 
 -- the bits of the first words
-front_unpacked : (n : ℕ) (words : List ℕ) → n ≤ length words → take (n * 64) (unpacked 64 words) ≡ unpacked 64 (take n words)
+pub front_unpacked : (n : ℕ) (words : List ℕ) → n ≤ length words → take (n * 64) (unpacked 64 words) ≡ unpacked 64 (take n words)
 front_unpacked zero words h = refl
 front_unpacked (suc n) [] h = absurd (omega arith)
 front_unpacked (suc n) (w ∷ words) h =

@@ -3,3 +3,4 @@ pub mod Filled
 pub mod FirstBits
 pub mod Marked
 pub mod Cleared
+pub mod Ranked

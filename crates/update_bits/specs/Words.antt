@@ -1,7 +1,8 @@
 -- A set of numbers below a length as words of 64 bits: number i is bit i mod 64 of word i / 64. Marks say,
 -- one bit a word, which words may have a bit that is set.
-use Rattle.std.specs.Prelude.{◌≡◌, ℕ, ◌+◌, ◌/◌, ◌^◌, ◌<◌, ◌≤◌, Bool, false, List, length, take, Option, MatchOption, true}
+use Rattle.std.specs.Prelude.{◌≡◌, ℕ, ◌+◌, ◌*◌, ◌/◌, ◌^◌, ◌<◌, ◌≤◌, Bool, false, List, length, take, slice_index, Option, MatchOption, true}
 use Rattle.list_laws.specs.Bits.{unpacked, bit_in}
+use Rattle.list_laws.specs.Members.{count_of}
 
 -- the set that the words hold
 abbrev pub set_in : (count : ℕ) (words : List ℕ) → List Bool
@@ -17,6 +18,11 @@ pub record AreWords (count : ℕ) (words : List ℕ) : Type 0 where
 pub record AreMarks (words marks : List ℕ) : Type 0 where
   pub places : AreWords (length words) marks
   pub marked : (k : ℕ) → bit_in marks (k / 64) ≡ false → bit_in words k ≡ false
+
+-- one number for each word of the set: how many members the words before it hold
+pub record AreCountsBefore (bits : List Bool) (before : List ℕ) : Type 0 where
+  pub each : length before ≡ (length bits + 63) / 64
+  pub counts : (w : ℕ) → w < length before → slice_index before w ≡ count_of (take (w * 64) bits)
 
 -- the bits from `start` up to, but not including, `end` were cleared, and the others stay
 pub record AreClearedBetween (old new : List ℕ) (start end : ℕ) : Type 0 where

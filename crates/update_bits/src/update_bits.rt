@@ -1,5 +1,6 @@
 //! A set of numbers below a length.
 ghost use Rattle.std.specs.Prelude.{◌≡◌, ◌<◌, ◌≤◌, ◌^◌, ◌&&◌, ℕ, not, nat_le, nat_lt, length, drop, slice_get, All, Some, IfOk, IfSome};
+ghost use Rattle.update_bits.specs.Words.{set_in, AreWords};
 ghost use Rattle.list_laws.specs.Members.{
   has_member,
   no_members,
@@ -147,6 +148,14 @@ impl UpdateBits {
     {
         let (word, left) = word_of_nth(&self.words, place);
         self.nth_since(word * 64, left)
+    }
+
+    /// The words that hold the set.
+    pub(crate) fn words(&self) -> &[u64]
+        ensures words { AreWords (length self.now) result.now }
+        ensures set { set_in (length self.now) result.now ≡ self.now }
+    {
+        &self.words
     }
 
     /// The member at `place`, counted from 0 among those that are at least `start`.

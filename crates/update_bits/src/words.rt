@@ -1,7 +1,10 @@
 //! The bits of words of 64 bits.
-ghost use Rattle.std.specs.Prelude.{◌≡◌, ◌≢◌, ℕ, ◌+◌, ◌*◌, ◌/◌, ◌<◌, ◌≤◌, ◌^◌, true, false, length, take, sum_by, count_by, count_ones, nat_lt};
+ghost use Rattle.std.specs.Prelude.{◌≡◌, ◌≢◌, ℕ, ◌+◌, ◌*◌, ◌/◌, ◌<◌, ◌≤◌, ◌^◌, true, false, length, take, sum_by, count_by, count_ones, nat_lt, IfOk};
 ghost use Rattle.list_laws.specs.Bits.{unpacked, bit_in};
-ghost use Rattle.update_bits.specs.Words.{IsNextBit, IsNextInWord};
+ghost use Rattle.list_laws.specs.Members.{count_of};
+ghost use Rattle.update_bits.specs.Words.{IsNextBit, IsNextInWord, AreCountsBefore};
+
+use std::alloc::{AllocError, Global};
 
 /// How many words hold a bit for each of `count` numbers.
 pub(crate) fn words_for(count: u32) -> usize
@@ -62,6 +65,28 @@ pub(crate) fn count_bits(words: &[u64]) -> u64
     ensures { result ≡ count_by (λ b. b) (unpacked 64 words.now) }
 {
     sum_ones(words)
+}
+
+/// How many bits of the word of bit `i` are set below it.
+pub(crate) fn ones_below(words: &[u64], i: u32) -> u32
+    requires { i / 64 < length words.now }
+    ensures { let bits = unpacked 64 words.now in count_of (take (i / 64 * 64) bits) + result ≡ count_of (take i bits) }
+{
+    (words[(i / 64) as usize] & ((1 << (i % 64)) - 1)).count_ones()
+}
+
+/// For each word, how many bits are set in the words before it.
+pub(crate) fn ones_before(alloc: Global, words: &[u64]) -> Result<Vec<u32>, AllocError>
+    requires { count_of (unpacked 64 words.now) < 2 ^ 32 }
+    ensures { IfOk result (λ before. AreCountsBefore (unpacked 64 words.now) before.items) }
+{
+    let mut before = Vec::with_capacity(alloc, words.len())?;
+    let mut passed = 0;
+    for word in words {
+        before.push(passed)?;
+        passed += word.count_ones();
+    }
+    Ok(before)
 }
 
 /// The first bit of its own word that is set, from bit `i` on.
