@@ -58,7 +58,8 @@ pub struct Host<P: VertexProgram> {
     // who is awake in this round, and in the next
     awake: UpdateBits,
     awake_next: UpdateBits,
-    // masters that something reached since they settled, and mirrors whose item changed since it was sent
+    // masters whose sum changed since they settled or that took an entry, and mirrors whose item changed
+    // since it was sent
     news: UpdateBits,
     has_computed: bool,
     has_spread: bool,
