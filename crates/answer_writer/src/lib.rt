@@ -13,7 +13,7 @@ mod tests;
 mod trace;
 mod words;
 
-pub use answer::{ANSWER_BYTES, put_answer, write_answer};
+pub use answer::write_answer;
 pub use report::{Report, write_report};
 pub use trace::write_trace;
 pub use words::{write_number, write_words};
