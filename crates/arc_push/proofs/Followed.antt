@@ -1,7 +1,7 @@
--- One arc more out of a tail is followed.
-use Rattle.std.proofs.Common.{◌≡◌, ℕ, ◌<◌, ◌^◌, Bool, cond, ◌==◌, ltb, List, [], ◌∷◌, ◌++◌, length, get_or, set, sym, ap, subst, ◌∙◌}
+-- One arc more out of a tail is followed, or one run of them after another.
+use Rattle.std.proofs.Common.{◌≡◌, ℕ, ◌<◌, Bool, cond, ◌==◌, ltb, List, [], ◌∷◌, ◌++◌, length, get_or, set, sym, ap, subst, ◌∙◌}
 use Rattle.std.specs.List.{All, AllByRecursion, filter}
-use Rattle.std.proofs.lemmas.List.Elements.{recursion_from_All, All-map, All-filter, All-weaker}
+use Rattle.std.proofs.lemmas.List.Elements.{recursion_from_All, All-from_recursion, All-map, All-filter, All-weaker}
 use Rattle.list_laws.specs.Members.{has_member}
 use Rattle.graph_model.specs.Arcs.{Arc, arcs_of}
 use Rattle.graph_model.specs.declared.edge.Way.{Way}
@@ -10,7 +10,7 @@ use Rattle.proxy_graph.specs.Heads.{vertex_at, lid_of, heads_from}
 use Rattle.reduce_laws.specs.ReductionLaws.{Reducer, ReductionLaws}
 use Rattle.reduce_laws.specs.ProgramLaws.{Steps, ProgramLaws}
 use Rattle.reduce_laws.proofs.Combining.{combined-append, combined_is_value, value_or_identity, combine_identity}
-use Rattle.arc_push.specs.Pushing.{has_news, brought_by, Begins, Brings}
+use Rattle.arc_push.specs.Pushing.{IsLent, has_news, brought_by, Begins, Brings}
 use Rattle.arc_push.proofs.Here.{IsHere, arcs_here}
 use Rattle.arc_push.proofs.OneMore.{one_more, said_otherwise}
 
@@ -19,16 +19,12 @@ front_of : {X : Type 0} (P : X → Type 0) (xs ys : List X) → AllByRecursion P
 front_of P [] ys h = tt
 front_of P (x ∷ xs) ys h = (h.0, front_of P xs ys h.1)
 
--- and of the one that follows
-seam_of : {X : Type 0} (P : X → Type 0) (xs : List X) (y : X) (ys : List X) → AllByRecursion P (xs ++ y ∷ ys) → P y
-seam_of P [] y ys h = h.0
-seam_of P (x ∷ xs) y ys h = seam_of P xs y ys h.1
+-- and of those of the second
+back_of : {X : Type 0} (P : X → Type 0) (xs ys : List X) → AllByRecursion P (xs ++ ys) → AllByRecursion P ys
+back_of P [] ys h = h
+back_of P (x ∷ xs) ys h = back_of P xs ys h.1
 
--- the head of an arc that is lent is a proxy, and the weight has four bytes
-pub record IsLent (proxies : ℕ) (arc : ℕ × ℕ) : Type 0 where
-  pub head_known : arc.0 < proxies
-  pub weight_fits : arc.1 < 2 ^ 32
-
+-- each arc out of a tail is lent
 heads_are_lent : (way : Way) (share : Share) → IsShare share → (tail : ℕ) → All (IsLent (length (proxies_here share))) (heads_from way share tail)
 heads_are_lent way share is tail =
     let chosen : List Arc = filter (λ arc. arc.tail == vertex_at share tail) (arcs_of way share.edges) in
@@ -37,13 +33,37 @@ heads_are_lent way share is tail =
     (All-weaker (IsHere share) (λ arc. IsLent (length (proxies_here share)) (lid_of share arc.head, arc.weight)) (λ arc here. record { head_known = here.head.within; weight_fits = here.weight_fits }) (arcs_of way share.edges) (arcs_here share is way)))
 
 -- the arcs that were followed and the next one are lent
-pub followed_are_lent : (way : Way) (share : Share) → IsShare share → (tail : ℕ) (arcs : List (ℕ × ℕ)) (arc : ℕ × ℕ) (rest left : List (ℕ × ℕ)) → arcs ++ left ≡ heads_from way share tail → left ≡ arc ∷ rest
-    → AllByRecursion (IsLent (length (proxies_here share))) arcs × IsLent (length (proxies_here share)) arc
-followed_are_lent way share is tail arcs arc rest left order step =
+pub followed_are_lent : (proxies : ℕ) (run : List (ℕ × ℕ)) → All (IsLent proxies) run → (arcs : List (ℕ × ℕ)) (arc : ℕ × ℕ) (rest left : List (ℕ × ℕ)) → arcs ++ left ≡ run → left ≡ arc ∷ rest
+    → AllByRecursion (IsLent proxies) arcs × IsLent proxies arc
+followed_are_lent proxies run are arcs arc rest left order step =
+    let P : ℕ × ℕ → Type 0 = IsLent proxies in
+    let whole : arcs ++ arc ∷ rest ≡ run = sym (ap (λ zs. arcs ++ zs) step) ∙ order in
+    let lent : AllByRecursion P (arcs ++ arc ∷ rest) = recursion_from_All P (arcs ++ arc ∷ rest) (subst (All P) (sym whole) are) in
+    (front_of P arcs (arc ∷ rest) lent, (back_of P arcs (arc ∷ rest) lent).0)
+
+-- the arcs of both runs out of a tail are lent
+pub runs_are_lent : (way : Way) (share : Share) → IsShare share → (tail : ℕ) (run next_run : List (ℕ × ℕ)) → run ++ next_run ≡ heads_from way share tail
+    → All (IsLent (length (proxies_here share))) run × All (IsLent (length (proxies_here share))) next_run
+runs_are_lent way share is tail run next_run parts =
     let P : ℕ × ℕ → Type 0 = IsLent (length (proxies_here share)) in
-    let whole : arcs ++ arc ∷ rest ≡ heads_from way share tail = sym (ap (λ zs. arcs ++ zs) step) ∙ order in
-    let lent : AllByRecursion P (arcs ++ arc ∷ rest) = recursion_from_All P (arcs ++ arc ∷ rest) (subst (All P) (sym whole) (heads_are_lent way share is tail)) in
-    (front_of P arcs (arc ∷ rest) lent, seam_of P arcs arc rest lent)
+    let lent : AllByRecursion P (run ++ next_run) = recursion_from_All P (run ++ next_run) (subst (All P) (sym parts) (heads_are_lent way share is tail)) in
+    (All-from_recursion P run (front_of P run next_run lent), All-from_recursion P next_run (back_of P run next_run lent))
+
+-- these arcs, out of a tail that shows y, bring what they bring with whatever came before
+abbrev pub Follows : {Item State Shown : Type 0} (IsItem : Item → Type 0) (reducer : Reducer Item) (steps : Steps Item State Shown) (y : Shown) (masters proxies : ℕ) (arcs : List (ℕ × ℕ)) (items : List Item) (news : List Bool) (new_items : List Item) (new_news : List Bool) → Type 0
+Follows {Item} {State} {Shown} IsItem reducer steps y masters proxies arcs items news new_items new_news =
+    (start : List Item) (first : List Bool) (before : Shown → ℕ → Item)
+    → Begins IsItem reducer masters proxies start first
+    → Brings IsItem reducer masters proxies before start first items news
+    → Brings IsItem reducer masters proxies (λ none l. reducer.combine (before none l) (brought_by reducer steps y arcs l)) start first new_items new_news
+
+-- so they do where the masters and the proxies are counted in another way
+pub follows_among : {Item State Shown : Type 0} (IsItem : Item → Type 0) (reducer : Reducer Item) (steps : Steps Item State Shown) (y : Shown) {masters other_masters proxies other_proxies : ℕ} → masters ≡ other_masters → proxies ≡ other_proxies
+    → (arcs : List (ℕ × ℕ)) (items : List Item) (news : List Bool) (new_items : List Item) (new_news : List Bool)
+    → Follows IsItem reducer steps y masters proxies arcs items news new_items new_news → Follows IsItem reducer steps y other_masters other_proxies arcs items news new_items new_news
+follows_among IsItem reducer steps y {masters} {other_masters} {proxies} {other_proxies} same_masters same_proxies arcs items news new_items new_news follows =
+    subst (λ m. Follows IsItem reducer steps y m other_proxies arcs items news new_items new_news) same_masters
+    (subst (λ n. Follows IsItem reducer steps y masters n arcs items news new_items new_news) same_proxies follows)
 
 module _ {Item State Shown : Type 0} {IsItem : Item → Type 0} {IsShown : Shown → Type 0} {IsState : State → Type 0} {reducer : Reducer Item} {steps : Steps Item State Shown} (laws : ReductionLaws IsItem reducer) (program : ProgramLaws IsItem IsShown IsState reducer steps)
     (proxies : ℕ) (y : Shown) (is_shown : IsShown y) where
@@ -61,12 +81,15 @@ module _ {Item State Shown : Type 0} {IsItem : Item → Type 0} {IsShown : Shown
   brought_value : (l : ℕ) (arcs : List (ℕ × ℕ)) → AllByRecursion (IsLent proxies) arcs → IsItem (brought_by reducer steps y arcs l)
   brought_value l arcs lent = combined_is_value laws (brings_to l) arcs (each_brings l arcs lent)
 
+  -- what two lists of arcs bring
+  brought_append : (l : ℕ) (arcs more : List (ℕ × ℕ)) → AllByRecursion (IsLent proxies) arcs → AllByRecursion (IsLent proxies) more → brought_by reducer steps y (arcs ++ more) l ≡ reducer.combine (brought_by reducer steps y arcs l) (brought_by reducer steps y more l)
+  brought_append l arcs more lent more_lent = combined-append laws (brings_to l) arcs more (each_brings l arcs lent) (each_brings l more more_lent)
+
   -- what one arc more brings
   brought_push : (l : ℕ) (arcs : List (ℕ × ℕ)) (arc : ℕ × ℕ) → AllByRecursion (IsLent proxies) arcs → IsLent proxies arc → brought_by reducer steps y (arcs ++ arc ∷ []) l ≡ reducer.combine (brought_by reducer steps y arcs l) (brings_to l arc)
   brought_push l arcs arc lent last =
-      let value = value_or_identity laws (arc.0 == l) (steps.along y arc.1) (along_lent arc last) in
-      combined-append laws (brings_to l) arcs (arc ∷ []) (each_brings l arcs lent) (value, tt)
-      ∙ ap (reducer.combine (brought_by reducer steps y arcs l)) (combine_identity laws (brings_to l arc) value)
+      brought_append l arcs (arc ∷ []) lent (last, tt)
+      ∙ ap (reducer.combine (brought_by reducer steps y arcs l)) (combine_identity laws (brings_to l arc) (value_or_identity laws (arc.0 == l) (steps.along y arc.1) (along_lent arc last)))
 
   module _ (masters : ℕ) (start : List Item) (first : List Bool) (begins : Begins IsItem reducer masters proxies start first) (before : Shown → ℕ → Item) where
     -- what was brought before this tail, and what its arcs bring
@@ -98,3 +121,23 @@ module _ {Item State Shown : Type 0} {IsItem : Item → Type 0} {IsShown : Shown
         ∙ ap (reducer.combine (before none l)) (sym (brought_push l arcs (head, weight) lent last)) in
         said_otherwise laws masters proxies start first begins (λ none l. reducer.combine (with_arcs arcs none l) (cond (head == l) item reducer.identity)) (with_arcs (arcs ++ (head, weight) ∷ [])) new_items new_news
         (λ none l known. subst P (same none l known) (more.is_value none l known)) same more
+
+  -- one run and then the other
+  pub both_followed : (masters : ℕ) (run next_run : List (ℕ × ℕ)) → All (IsLent proxies) run → All (IsLent proxies) next_run
+      → (items : List Item) (news : List Bool) (mid_items : List Item) (mid_news : List Bool) (new_items : List Item) (new_news : List Bool)
+      → Follows IsItem reducer steps y masters proxies run items news mid_items mid_news
+      → Follows IsItem reducer steps y masters proxies next_run mid_items mid_news new_items new_news
+      → Follows IsItem reducer steps y masters proxies (run ++ next_run) items news new_items new_news
+  both_followed masters run next_run run_lent next_lent items news mid_items mid_news new_items new_news one other start first before begins done =
+      let P : Item → Type 0 = IsItem in
+      let lent : AllByRecursion (IsLent proxies) run = recursion_from_All (IsLent proxies) run run_lent in
+      let more_lent : AllByRecursion (IsLent proxies) next_run = recursion_from_All (IsLent proxies) next_run next_lent in
+      let by_one : Shown → ℕ → Item = λ none l. reducer.combine (before none l) (brought_by reducer steps y run l) in
+      let by_both : Shown → ℕ → Item = λ none l. reducer.combine (before none l) (brought_by reducer steps y (run ++ next_run) l) in
+      let more = other start first by_one begins (one start first before begins done) in
+      let same : (none : Shown) (l : ℕ) → l < proxies → reducer.combine (by_one none l) (brought_by reducer steps y next_run l) ≡ by_both none l
+      = λ none l known.
+      laws.combine_assoc (before none l) (brought_by reducer steps y run l) (brought_by reducer steps y next_run l) (done.is_value none l known) (brought_value l run lent) (brought_value l next_run more_lent)
+      ∙ ap (reducer.combine (before none l)) (sym (brought_append l run next_run lent more_lent)) in
+      said_otherwise laws masters proxies start first begins (λ none l. reducer.combine (by_one none l) (brought_by reducer steps y next_run l)) by_both new_items new_news
+      (λ none l known. subst P (same none l known) (more.is_value none l known)) same more

@@ -1,9 +1,14 @@
 -- What items do to the proxies that they reach.
-use Rattle.std.specs.Prelude.{◌≡◌, ◌<◌, ◌≤◌, ◌==◌, ◌||◌, ℕ, Bool, true, false, not, if◌then◌else◌, List, length, All}
+use Rattle.std.specs.Prelude.{◌≡◌, ◌<◌, ◌≤◌, ◌^◌, ◌==◌, ◌||◌, ℕ, Bool, false, not, if◌then◌else◌, List, length, All}
 use Rattle.std.specs.List.{slice_index_or}
 use Rattle.list_laws.specs.Members.{has_member}
 use Rattle.reduce_laws.specs.ReductionLaws.{Reducer, combined}
 use Rattle.reduce_laws.specs.ProgramLaws.{Steps}
+
+-- the head of an arc that is lent is a proxy, and the weight has four bytes
+pub record IsLent (proxies : ℕ) (arc : ℕ × ℕ) : Type 0 where
+  pub head_known : arc.0 < proxies
+  pub weight_fits : arc.1 < 2 ^ 32
 
 -- Whether a proxy has news once an item was combined into its own: as before, where that changed nothing.
 -- Else a master has, and so has a mirror that keeps its items; another mirror has where its item is no

@@ -1,7 +1,8 @@
 //! One host's arcs at work: what awake proxies show goes along their arcs and is combined at the heads.
 //!
 //! [`push_awake`] goes from one awake proxy to the next, so a round in which few are awake costs no pass
-//! over the arcs. It works on plain slices by local number and takes no memory.
+//! over the arcs. The arcs of each are gone through run by run, as they lie side by side. It works on plain
+//! slices by local number and takes no memory.
 //!
 //! Each arc out of an awake tail brings the item that the
 //! [`VertexProgram`](reduce_laws::VertexProgram) makes of the tail's shown value and the arc's weight. The

@@ -5,10 +5,10 @@ ghost use Rattle.list_laws.specs.Members.{has_member};
 ghost use Rattle.graph_division.specs.Shares.{IsShare, masters_here, proxies_here};
 ghost use Rattle.proxy_graph.specs.Heads.{heads_from};
 ghost use Rattle.host_state.specs.Gained.{Gains};
-ghost use Rattle.arc_push.specs.Pushing.{has_news, brought_by, Begins, Brings};
+ghost use Rattle.arc_push.specs.Pushing.{IsLent, has_news, brought_by, Begins, Brings};
 
 use graph_model::Way;
-use proxy_graph::LocalGraph;
+use proxy_graph::{LocalGraph, Run};
 use reduce_laws::{Reduction, VertexProgram};
 use update_bits::UpdateBits;
 
@@ -80,7 +80,36 @@ fn push_along<P: VertexProgram>(
     ensures are_items { All P.Red.Item.IsValue items.new }
 {
     let masters = graph.masters();
-    for (head, weight) in graph.arcs(way).heads_of(tail) {
+    let (run, next_run) = graph.arcs(way).runs_of(tail);
+    push_run(program, masters, y, run, items, news);
+    push_run(program, masters, y, next_run, items, news);
+}
+
+/// Combines the items along the arcs of one run, whose tail shows `y`, into the items of their heads, which
+/// are below the number of items.
+fn push_run<P: VertexProgram>(
+    program: &P,
+    masters: u32,
+    y: P::Shown,
+    run: Run<'_>,
+    items: &mut [<P::Red as Reduction>::Item],
+    news: &mut UpdateBits,
+)
+    requires is_shown { P.Shown.IsValue y }
+    requires are_lent { All (IsLent (length items.old)) run }
+    requires news_fit { length news.old ≡ length items.old }
+    requires items_are { All P.Red.Item.IsValue items.old }
+    ensures brings { (start : List P.Red.Item) (first : List Bool) (before : P.Shown → ℕ → P.Red.Item)
+        → Begins P.Red.Item.IsValue P.Red.reducer masters (length items.old) start first
+        → Brings P.Red.Item.IsValue P.Red.reducer masters (length items.old) before start first items.old news.old
+        → Brings P.Red.Item.IsValue P.Red.reducer masters (length items.old)
+        (λ none l. P.Red.reducer.combine (before none l) (brought_by P.Red.reducer (P.steps program.now) y run.entry l))
+        start first items.new news.new }
+    ensures items_fit { length items.new ≡ length items.old }
+    ensures news_fit { length news.new ≡ length news.old }
+    ensures are_items { All P.Red.Item.IsValue items.new }
+{
+    for (head, weight) in run {
         combine_into::<P::Red>(masters, head, program.along(y, weight), items, news);
     }
 }

@@ -1,15 +1,14 @@
 -- What assembling gives: the fields are those of the local graph of the share.
-use Rattle.std.proofs.Common.{◌≡◌, ◌↔◌, ℕ, ◌+◌, ◌-◌, ◌<◌, ◌≤◌, true, false, Bool, cond, not, ◌&&◌, ◌||◌, ◌==◌, List, [], ◌∷◌, ◌++◌, length, map, take, drop, slice_index, slice_index_or, refl, sym, ◌∙◌, ap, arith, inl, inr, subst, length-append, append-nil}
+use Rattle.std.proofs.Common.{◌≡◌, ◌↔◌, ℕ, ◌+◌, ◌-◌, ◌<◌, ◌≤◌, true, false, Bool, cond, not, ◌&&◌, ◌||◌, ◌==◌, List, [], ◌∷◌, ◌++◌, length, map, slice_index, slice_index_or, refl, sym, ◌∙◌, ap, arith, inl, inr, subst, length-append, append-nil}
 use Rattle.std.specs.List.{All, filter, list_any, range_with_len}
 use Rattle.std.specs.List.Sorted.{IsStrictlyIncreasing}
-use Rattle.std.proofs.lemmas.Bool.{and_parts, cases_eq, eq-eqb, eqb-true, ne_eqb, or_right}
+use Rattle.std.proofs.lemmas.Bool.{and_parts, eq-eqb, eqb-true, ne_eqb, or_right}
 use Rattle.std.proofs.lemmas.Bool.Decides.{eqb_tells}
 use Rattle.std.proofs.lemmas.List.{get_or_past}
-use Rattle.std.proofs.lemmas.List.Elements.{All-head, All-tail, All-weaker, filter-append}
+use Rattle.std.proofs.lemmas.List.Elements.{All-head, All-map, All-tail, All-weaker, filter-append}
 use Rattle.std.proofs.lemmas.List.Folds.{list_any_at}
 use Rattle.std.proofs.lemmas.List.Kept.{IsStrictlyIncreasing-filter}
 use Rattle.std.proofs.lemmas.List.FromFn.{length-range_with_len}
-use Rattle.std.proofs.lemmas.Option.{slice_get-get_or}
 use Rattle.list_laws.specs.Among.{is_among, place_of}
 use Rattle.list_laws.specs.Members.{has_member}
 use Rattle.graph_model.specs.Arcs.{Arc, out_arc}
@@ -22,8 +21,8 @@ use Rattle.graph_division.proofs.PrunedLists.{range_rises}
 use Rattle.graph_division.proofs.FileOrder.{joined_same, filter_none, file_order_stays}
 use Rattle.proxy_graph.specs.Heads.{lid_of, vertex_at}
 use Rattle.proxy_graph.specs.Keyed.{with_key}
-use Rattle.proxy_graph.specs.Runs.{KeepsArcs, arcs_at, count_at, start_at}
-use Rattle.proxy_graph.specs.Sides.{Side, Out, Back, AreKeyed, AreSorted, AreTogether, arc_of, arc_pair, edge_at, key_of, end_of}
+use Rattle.proxy_graph.specs.Runs.{KeepsArcs, arcs_at, count_at, pairs_of, part_of, start_at}
+use Rattle.proxy_graph.specs.Sides.{Side, Out, Back, AreSorted, arc_of, arc_pair, key_of, end_of}
 use Rattle.proxy_graph.specs.Numbering.{is_hosted, is_end, is_mirrored, AreMarks, AreNumbered, IsLidOf}
 use Rattle.proxy_graph.specs.Kept.{edge_from, edges_of, share_of, proxies_of, Keeps, IsKept}
 use Rattle.proxy_graph.specs.declared.local_graph.LocalGraph.TheInside.{Inside}
@@ -91,28 +90,32 @@ have_ends edges k d within =
 
 -- ---- the proxies
 
-module _ (share : Share) (first count : ℕ) (marks : List Bool) (table mirrors : List ℕ)
-    (vertices : (v : ℕ) → v < nodes_of share → (slice_index share.masters v ≡ share.host) ↔ ((first ≤ v) × (v < first + count)))
-    (row : first + count ≤ nodes_of share)
-    (marked : AreMarks (nodes_of share) share.edges marks)
-    (numbered : AreNumbered first count marks (nodes_of share) table mirrors) where
+-- masters lie in a row, ends of edges have marks, and the vertices that are hosted or have a mark are numbered
+pub record AreProxies (share : Share) (first count : ℕ) (marks : List Bool) (table mirrors : List ℕ) : Type 0 where
+  pub within : All (IsWithin (nodes_of share)) share.edges
+  pub vertices : (v : ℕ) → v < nodes_of share → (slice_index share.masters v ≡ share.host) ↔ ((first ≤ v) × (v < first + count))
+  pub row : first + count ≤ nodes_of share
+  pub marked : AreMarks (nodes_of share) share.edges marks
+  pub numbered : AreNumbered first count marks (nodes_of share) table mirrors
+
+module _ {share : Share} {first count : ℕ} {marks : List Bool} {table mirrors : List ℕ} (are : AreProxies share first count marks table mirrors) where
   -- a vertex is in the row where its master is here
   master_here : (v : ℕ) → v < nodes_of share → (slice_index_or share.masters v 0 == share.host) ≡ is_hosted first count v
   master_here v within =
       agree (slice_index_or share.masters v 0 == share.host) (is_hosted first count v)
-      (λ here. let at = (vertices v within).0 (eqb-true (slice_index share.masters v) share.host here) in hosted_true first count v at.0 at.1)
-      (λ hosted. eq-eqb (slice_index share.masters v) share.host ((vertices v within).1 (hosted_is first count v hosted)))
+      (λ here. let at = (are.vertices v within).0 (eqb-true (slice_index share.masters v) share.host here) in hosted_true first count v at.0 at.1)
+      (λ hosted. eq-eqb (slice_index share.masters v) share.host ((are.vertices v within).1 (hosted_is first count v hosted)))
 
   pub masters_are : masters_here share ≡ range_with_len first count
-  masters_are = picked_row (λ v. slice_index_or share.masters v 0 == share.host) first count (nodes_of share) row master_here
+  masters_are = picked_row (λ v. slice_index_or share.masters v 0 == share.host) first count (nodes_of share) are.row master_here
 
   pub mirrors_are : mirrors_here share ≡ mirrors
   mirrors_are =
       picked_same (is_mirror (seen Outward share) share.host) (is_mirrored first count marks) 0 (nodes_of share) (λ v low high.
       let within : v < nodes_of share = omega arith in
       ap (λ b. not b && (is_readable (seen Outward share) share.host v || is_writable (seen Outward share) share.host v)) (master_here v within)
-      ∙ ap (λ b. not (is_hosted first count v) && b) (sym (marked.marks_are v within ∙ ends_are share.edges v)))
-      ∙ sym numbered.mirrors_are
+      ∙ ap (λ b. not (is_hosted first count v) && b) (sym (are.marked.marks_are v within ∙ ends_are share.edges v)))
+      ∙ sym are.numbered.mirrors_are
 
   pub proxies_are : proxies_here share ≡ range_with_len first count ++ mirrors
   proxies_are = ap (λ xs. xs ++ mirrors_here share) masters_are ∙ ap (λ xs. range_with_len first count ++ xs) mirrors_are
@@ -126,7 +129,7 @@ module _ (share : Share) (first count : ℕ) (marks : List Bool) (table mirrors 
   mirrors_apart =
       let P : List ℕ → Type 0 = λ xs. All (λ v. is_hosted first count v ≡ false) xs in
       let test : ℕ → Bool = is_mirrored first count marks in
-      subst P (sym numbered.mirrors_are)
+      subst P (sym are.numbered.mirrors_are)
       (All-weaker (λ v. test v ≡ true) (λ v. is_hosted first count v ≡ false) (λ v passes. denied (is_hosted first count v) (and_parts (not (is_hosted first count v)) (has_member marks v) passes).0) (filter test (range_with_len 0 (nodes_of share)))
       (picked_pass test (range_with_len 0 (nodes_of share))))
 
@@ -140,7 +143,7 @@ module _ (share : Share) (first count : ℕ) (marks : List Bool) (table mirrors 
   pub end_lid : (v : ℕ) → v < nodes_of share → is_end share.edges v ≡ true → IsLidOf (proxies_here share) v (slice_index table v)
   end_lid v within end =
       let P : List ℕ → Type 0 = λ xs. IsLidOf xs v (slice_index table v) in
-      subst P (sym proxies_are) (numbered.marked v within (marked.marks_are v within ∙ end))
+      subst P (sym proxies_are) (are.numbered.marked v within (are.marked.marks_are v within ∙ end))
 
 -- the table has the place of both ends of an edge
 pub record IsNamed (share : Share) (table : List ℕ) (edge : Edge) : Type 0 where
@@ -244,8 +247,8 @@ module _ (share : Share) (arcs : Arcs) (only : OnlyPlaces share) (keeps : KeepsA
   no_arcs : arcs_at arcs (length (proxies_here share)) ≡ []
   no_arcs =
       let keys = length (proxies_here share) in
-      let none : count_at arcs keys ≡ 0 = omega (arith, get_or_past arcs.ends.items keys 0 (omega (arith, keeps.runs.ended))) in
-      ap (λ (n : ℕ). take n (drop (start_at arcs keys) arcs.heads.items)) none
+      let none : count_at arcs keys ≡ 0 = omega (arith, get_or_past arcs.starts.items (keys + 1) 0 (omega (arith, keeps.runs.started))) in
+      ap (λ (n : ℕ). part_of (start_at arcs keys) n (pairs_of arcs)) none
 
   -- the edges from each vertex
   edges_from : (v : ℕ) → All (λ edge. is_among (proxies_here share) edge.src ≡ true) share.edges → All (λ edge. is_among (proxies_here share) edge.dst ≡ true) share.edges
@@ -277,102 +280,85 @@ module _ (share : Share) (arcs : Arcs) (only : OnlyPlaces share) (keeps : KeepsA
 abbrev pub share_with : (host hosts : ℕ) (masters : List ℕ) (edges : List Edge) → Share
 share_with host hosts masters edges = record { host = host; hosts = hosts; masters = masters; edges = edges }
 
-module _ (share : Share) (first count : ℕ) (marks : List Bool) (table mirrors : List ℕ)
-    (within : All (IsWithin (nodes_of share)) share.edges)
-    (vertices : (v : ℕ) → v < nodes_of share → (slice_index share.masters v ≡ share.host) ↔ ((first ≤ v) × (v < first + count)))
-    (row : first + count ≤ nodes_of share)
-    (marked : AreMarks (nodes_of share) share.edges marks)
-    (numbered : AreNumbered first count marks (nodes_of share) table mirrors) where
-  pub names : All (IsNamed share table) share.edges
+module _ {share : Share} {first count : ℕ} {marks : List Bool} {table mirrors : List ℕ} (are : AreProxies share first count marks table mirrors) where
+  names : All (IsNamed share table) share.edges
   names k d below =
-      let ends = within k d below in
+      let ends = are.within k d below in
       let has = have_ends share.edges k d below in
       let edge = slice_index_or share.edges k d in
       record {
-        source = end_lid share first count marks table mirrors vertices row marked numbered edge.src ends.0 has.source;
-        destination = end_lid share first count marks table mirrors vertices row marked numbered edge.dst ends.1 has.destination;
+        source = end_lid are edge.src ends.0 has.source;
+        destination = end_lid are edge.dst ends.1 has.destination;
       }
 
   pub proxies_long : length (proxies_here share) ≡ count + length mirrors
-  proxies_long = omega (arith, ap length (proxies_are share first count marks table mirrors vertices row marked numbered), length-append (range_with_len first count) mirrors, length-range_with_len first count)
+  proxies_long = omega (arith, ap length (proxies_are are), length-append (range_with_len first count) mirrors, length-range_with_len first count)
 
   only_places : OnlyPlaces share
-  only_places = lid_is share first count marks table mirrors vertices row marked numbered
+  only_places = lid_is are
 
   -- the table gives each end a key
-  pub keyed : (side : Side) → AreKeyed side (count + length mirrors) table share.edges
-  keyed side = record {
-    within = λ k d below. let ends = within k d below in let long = table_long in (omega (arith, ends.0, long), omega (arith, ends.1, long));
-    known = λ k d below. let is = tail_lid share table only_places side (slice_index_or share.edges k d) (names k d below) in omega (arith, is.within, proxies_long);
+  pub keyed : (side : Side) → All (λ key. key < count + length mirrors) (map (key_of side table) share.edges)
+  keyed side =
+      All-map (λ key. key < count + length mirrors) (key_of side table) share.edges (λ k d below.
+      let is = tail_lid share table only_places side (slice_index_or share.edges k d) (names k d below) in
+      omega (arith, is.within, proxies_long))
+
+-- the fields are those of the share, and the arcs of its edges stand in them by tail and by head
+pub record AreFields (share : Share) (first count : ℕ) (table mirrors : List ℕ) (graph : Inside) : Type 0 where
+  pub is_share : IsShare share
+  pub host : graph.host ≡ share.host
+  pub hosts : graph.masters.hosts ≡ share.hosts
+  pub masters : graph.masters.masters ≡ share.masters
+  pub nodes : graph.nodes ≡ nodes_of share
+  pub begins : graph.first ≡ first
+  pub hosted : graph.count ≡ count
+  pub mirrored : graph.mirrors.items ≡ mirrors
+  pub out : AreSorted Out (count + length mirrors) table share.edges graph.out
+  pub back : AreSorted Back (count + length mirrors) table share.edges graph.back
+
+module _ {share : Share} {first count : ℕ} {marks : List Bool} {table mirrors : List ℕ} {graph : Inside}
+    (are : AreProxies share first count marks table mirrors) (fields : AreFields share first count table mirrors graph) where
+  out_kept : KeepsArcs Outward share graph.out
+  out_kept = keeps_out share table (only_places are) graph.out (names are) (subst (λ (keys : ℕ). AreSorted Out keys table share.edges graph.out) (sym (proxies_long are)) fields.out)
+
+  back_kept : KeepsArcs Inward share graph.back
+  back_kept = keeps_back share table (only_places are) graph.back (names are) (subst (λ (keys : ℕ). AreSorted Back keys table share.edges graph.back) (sym (proxies_long are)) fields.back)
+
+  -- the fields keep the share
+  built : Keeps share graph
+  built = record {
+    is_share = fields.is_share;
+    host = sym fields.host;
+    hosts = sym fields.hosts;
+    masters = sym fields.masters;
+    nodes = sym fields.nodes;
+    masters_are = masters_are are ∙ ap (λ (k : ℕ). range_with_len k count) (sym fields.begins) ∙ ap (λ (n : ℕ). range_with_len graph.first n) (sym fields.hosted);
+    mirrors_are = mirrors_are are ∙ sym fields.mirrored;
+    out_arcs = out_kept;
+    in_arcs = back_kept;
   }
-    where
-      table_long : length table ≡ nodes_of share
-      table_long = numbered.long ∙ marked.long
 
-  -- edges by source have those of one key side by side
-  pub together : IsBySource share.edges → AreTogether (key_of Out table) share.edges
-  together ordered i j k low high below same = ap (slice_index table) sources
-    where
-      named : (n : ℕ) → n < length share.edges → IsNamed share table (edge_at share.edges n)
-      named n inside = names n _ inside
+  -- and stand for it
+  pub stands : share_of graph ≡ share
+  stands =
+      let proxies : proxies_of graph ≡ proxies_here share = sym (ap (λ xs. xs ++ mirrors_here share) built.masters_are ∙ ap (λ xs. range_with_len graph.first graph.count ++ xs) built.mirrors_are) in
+      let edges : edges_of graph.nodes (proxies_of graph) graph.out ≡ share.edges
+      = ap (λ (n : ℕ). edges_of n (proxies_of graph) graph.out) fields.nodes
+      ∙ ap (λ ps. edges_of (nodes_of share) ps graph.out) proxies
+      ∙ edges_are share graph.out (only_places are) out_kept
+      (All-weaker (IsNamed share table) (λ edge. is_among (proxies_here share) edge.src ≡ true) (λ edge named. lid_among (proxies_here share) edge.src (slice_index table edge.src) named.source) share.edges (names are))
+      (All-weaker (IsNamed share table) (λ edge. is_among (proxies_here share) edge.dst ≡ true) (λ edge named. lid_among (proxies_here share) edge.dst (slice_index table edge.dst) named.destination) share.edges (names are))
+      fields.is_share.within fields.is_share.by_source in
+      ap (λ (h : ℕ). share_with h graph.masters.hosts graph.masters.masters (share_of graph).edges) fields.host
+      ∙ ap (λ (n : ℕ). share_with share.host n graph.masters.masters (share_of graph).edges) fields.hosts
+      ∙ ap (λ ms. share_with share.host share.hosts ms (share_of graph).edges) fields.masters
+      ∙ ap (λ es. share_with share.host share.hosts share.masters es) edges
 
-      -- two places in order have sources in order
-      rises : (n m : ℕ) → n ≤ m → m < length share.edges → (edge_at share.edges n).src ≤ (edge_at share.edges m).src
-      rises n m order inside = elim (cases_eq n m) [
-        | inl one ↦ omega (arith, ap {B = ℕ} (λ (at : ℕ). (edge_at share.edges at).src) one)
-        | inr apart ↦ ordered n m (edge_at share.edges n) (edge_at share.edges m) (omega arith) (slice_get-get_or share.edges n _ (omega arith)) (slice_get-get_or share.edges m _ inside)
-      ]
-
-      -- one key is one source
-      outer : (edge_at share.edges i).src ≡ (edge_at share.edges k).src
-      outer = sym (named i (omega arith)).source.here ∙ ap (slice_index (proxies_here share)) same ∙ (named k below).source.here
-
-      sources : (edge_at share.edges j).src ≡ (edge_at share.edges k).src
-      sources = omega (arith, rises i j low (omega arith), rises j k high below, outer)
-
-  module _ (is_share : IsShare share) (graph : Inside) (hosted : graph.host ≡ share.host) (hosts : graph.masters.hosts ≡ share.hosts) (masters : graph.masters.masters ≡ share.masters) (nodes : graph.nodes ≡ nodes_of share)
-      (begins : graph.first ≡ first) (long : graph.count ≡ count) (mirrored : graph.mirrors.items ≡ mirrors)
-      (out : AreSorted Out (count + length mirrors) table share.edges graph.out) (back : AreSorted Back (count + length mirrors) table share.edges graph.back) where
-    out_kept : KeepsArcs Outward share graph.out
-    out_kept = keeps_out share table only_places graph.out names (subst (λ (keys : ℕ). AreSorted Out keys table share.edges graph.out) (sym proxies_long) out)
-
-    back_kept : KeepsArcs Inward share graph.back
-    back_kept = keeps_back share table only_places graph.back names (subst (λ (keys : ℕ). AreSorted Back keys table share.edges graph.back) (sym proxies_long) back)
-
-    -- the fields keep the share
-    pub built : Keeps share graph
-    built = record {
-      is_share = is_share;
-      host = sym hosted;
-      hosts = sym hosts;
-      masters = sym masters;
-      nodes = sym nodes;
-      masters_are = masters_are share first count marks table mirrors vertices row marked numbered ∙ ap (λ (k : ℕ). range_with_len k count) (sym begins) ∙ ap (λ (n : ℕ). range_with_len graph.first n) (sym long);
-      mirrors_are = mirrors_are share first count marks table mirrors vertices row marked numbered ∙ sym mirrored;
-      out_arcs = out_kept;
-      in_arcs = back_kept;
-    }
-
-    -- and stand for it
-    pub stands : share_of graph ≡ share
-    stands =
-        let proxies : proxies_of graph ≡ proxies_here share = sym (ap (λ xs. xs ++ mirrors_here share) built.masters_are ∙ ap (λ xs. range_with_len graph.first graph.count ++ xs) built.mirrors_are) in
-        let edges : edges_of graph.nodes (proxies_of graph) graph.out ≡ share.edges
-        = ap (λ (n : ℕ). edges_of n (proxies_of graph) graph.out) nodes
-        ∙ ap (λ ps. edges_of (nodes_of share) ps graph.out) proxies
-        ∙ edges_are share graph.out only_places out_kept
-        (All-weaker (IsNamed share table) (λ edge. is_among (proxies_here share) edge.src ≡ true) (λ edge named. lid_among (proxies_here share) edge.src (slice_index table edge.src) named.source) share.edges names)
-        (All-weaker (IsNamed share table) (λ edge. is_among (proxies_here share) edge.dst ≡ true) (λ edge named. lid_among (proxies_here share) edge.dst (slice_index table edge.dst) named.destination) share.edges names)
-        is_share.within is_share.by_source in
-        ap (λ (h : ℕ). share_with h graph.masters.hosts graph.masters.masters (share_of graph).edges) hosted
-        ∙ ap (λ (n : ℕ). share_with share.host n graph.masters.masters (share_of graph).edges) hosts
-        ∙ ap (λ ms. share_with share.host share.hosts ms (share_of graph).edges) masters
-        ∙ ap (λ es. share_with share.host share.hosts share.masters es) edges
-
-    pub kept_fields : IsKept graph
-    kept_fields =
-        let P : Share → Type 0 = λ seen. Keeps seen graph in
-        subst P (sym stands) built
+  pub kept_fields : IsKept graph
+  kept_fields =
+      let P : Share → Type 0 = λ seen. Keeps seen graph in
+      subst P (sym stands) built
 
 -- numbers of all marks are those of all nodes
 pub numbered_is : (first count nodes : ℕ) (edges : List Edge) (marks : List Bool) (table mirrors : List ℕ) → AreMarks nodes edges marks → AreNumbered first count marks (length marks) table mirrors → AreNumbered first count marks nodes table mirrors

@@ -1,11 +1,13 @@
+pub mod Pairs
 pub mod Read
 pub mod Keyed
 pub mod CountingSteps
 pub mod CountedOut
-pub mod Delimited
+pub mod SortingSteps
 pub mod Ranges
 pub mod NumberingSteps
 pub mod Lids
+pub mod Rows
 pub mod Assembled
 pub mod SurveySteps
 pub mod InFileOrder

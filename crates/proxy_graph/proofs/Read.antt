@@ -8,8 +8,8 @@ use Rattle.std.proofs.lemmas.List.Sorted.{searched}
 use Rattle.list_laws.proofs.Places.{All-at}
 use Rattle.list_laws.proofs.Rising.{Rises-from_increasing, in_order}
 use Rattle.graph_model.specs.Graph.{most_nodes}
-use Rattle.std.proofs.lemmas.List.{map-append, length-take-le, length-map, get_or_append_left, get_or-append_right}
-use Rattle.std.proofs.lemmas.List.Elements.{All-append, filter-append}
+use Rattle.std.proofs.lemmas.List.{length-take-le, length-map, get_or_append_left, get_or-append_right}
+use Rattle.std.proofs.lemmas.List.Elements.{All-append}
 use Rattle.std.proofs.lemmas.List.Folds.{list_any-append, list_any_none}
 use Rattle.std.proofs.lemmas.List.Kept.{IsStrictlyIncreasing-filter}
 use Rattle.std.proofs.lemmas.List.FromFn.{length-range_with_len, get_or-range_with_len}
@@ -22,11 +22,12 @@ use Rattle.graph_model.specs.declared.edge.Way.TheVariants.{Outward, Inward, Bot
 use Rattle.graph_division.specs.Lists.{is_readable, is_writable, is_mirror}
 use Rattle.graph_division.specs.Shares.{Share, nodes_of, seen, masters_here, mirrors_here, proxies_here}
 use Rattle.graph_division.proofs.PrunedLists.{picked_below, range_rises}
-use Rattle.proxy_graph.specs.Heads.{heads_from, vertex_at, lid_of}
-use Rattle.proxy_graph.specs.Runs.{AreRuns, KeepsArcs, arcs_at, count_at, start_at}
+use Rattle.proxy_graph.specs.Heads.{vertex_at, lid_of}
+use Rattle.proxy_graph.specs.Runs.{AreRuns, KeepsArcs, arcs_at, count_at, pairs_of, start_at}
 use Rattle.proxy_graph.specs.Kept.{Keeps, IsKept, share_of, proxies_of}
 use Rattle.proxy_graph.specs.declared.arcs.Arcs.{Arcs}
 use Rattle.proxy_graph.specs.declared.local_graph.LocalGraph.TheInside.{Inside}
+use Rattle.proxy_graph.proofs.Pairs.{length-pairs}
 
 -- some element passes exactly where what passes is not empty
 any_passes : {X : Type 0} (p : X → Bool) (xs : List X) → nat_lt 0 (length (filter p xs)) ≡ list_any p xs
@@ -146,8 +147,9 @@ found_at ids x place rise answer =
 -- how many arcs a key has
 length-arcs_at : (keys : ℕ) (arcs : Arcs) (lid : ℕ) → AreRuns keys arcs → lid < keys → length (arcs_at arcs lid) ≡ count_at arcs lid
 length-arcs_at keys arcs lid runs known =
-    let rest = drop (start_at arcs lid) arcs.heads.items in
-    length-take-le (count_at arcs lid) rest (omega (arith, length-drop (start_at arcs lid) arcs.heads.items, runs.rises lid known, runs.within lid known))
+    let rest = drop (start_at arcs lid) (pairs_of arcs) in
+    let long = length-pairs arcs.heads.items arcs.weights.items runs.weighed in
+    length-take-le (count_at arcs lid) rest (omega (arith, long, length-drop (start_at arcs lid) (pairs_of arcs), runs.rises lid known, runs.within lid known))
 
 module _ (share : Share) where
   -- whether a proxy has an arc is told by its starts
@@ -176,11 +178,3 @@ module _ (share : Share) where
   writable_both v =
       ap (λ b. is_writable (seen Outward share) share.host v || b) (sym (turned_back share.edges v))
       ∙ sym (list_any-append (λ arc. arc.head == v) (map out_arc share.edges) (map in_arc share.edges))
-
-  -- and they are its out-arcs and then its in-arcs
-  pub heads_both : (lid : ℕ) → heads_from Outward share lid ++ heads_from Inward share lid ≡ heads_from Both share lid
-  heads_both lid =
-      let tails : Arc → Bool = λ arc. arc.tail == vertex_at share lid in
-      let pair : Arc → ℕ × ℕ = λ arc. (lid_of share arc.head, arc.weight) in
-      sym (map-append pair (filter tails (map out_arc share.edges)) (filter tails (map in_arc share.edges)))
-      ∙ ap (map pair) (sym (filter-append tails (map out_arc share.edges) (map in_arc share.edges)))

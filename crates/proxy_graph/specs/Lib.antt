@@ -4,5 +4,5 @@ pub mod Kept
 pub mod Keyed
 pub mod Sides
 pub mod Counting
-pub mod Delimiting
+pub mod Sorting
 pub mod Numbering

@@ -1,10 +1,11 @@
 //! The arcs of a local graph, followed in a way.
-ghost use Rattle.std.specs.Prelude.{◌≡◌, ◌<◌, length};
+ghost use Rattle.std.specs.Prelude.{◌≡◌, ◌<◌, ◌++◌, length};
 ghost use Rattle.graph_division.specs.Shares.{proxies_here};
 ghost use Rattle.proxy_graph.specs.Heads.{Lent, heads_from};
 
 use crate::heads::Heads;
 use crate::local_graph::LocalGraph;
+use crate::run::Run;
 use graph_model::Way;
 use std::marker::Model;
 
@@ -35,11 +36,21 @@ impl<'a> ArcView<'a> {
         requires { tail < length (proxies_here self.now.share) }
         ensures { result ≡ heads_from self.now.way self.now.share tail }
     {
+        let (run, next_run) = self.runs_of(tail);
+        Heads::new(run, next_run)
+    }
+
+    /// The same arcs in two parts, each of which lies side by side: those of out-edges and those of
+    /// in-edges, where the way takes both. Where it takes one, the second part is empty.
+    pub fn runs_of(&self, tail: u32) -> (Run<'a>, Run<'a>)
+        requires { tail < length (proxies_here self.now.share) }
+        ensures { result.0 ++ result.1 ≡ heads_from self.now.way self.now.share tail }
+    {
         let graph = self.graph;
         match self.way {
-            Way::Outward => graph.out_heads(tail),
-            Way::Inward => graph.in_heads(tail),
-            Way::Both => graph.both_heads(tail),
+            Way::Outward => (graph.out_run(tail), graph.no_run()),
+            Way::Inward => (graph.in_run(tail), graph.no_run()),
+            Way::Both => (graph.out_run(tail), graph.in_run(tail)),
         }
     }
 }

@@ -4,17 +4,19 @@
 
 mod arc_view;
 mod arcs;
+mod columns;
 mod file_order;
 mod heads;
-mod in_arcs;
 mod local_graph;
 mod numbering;
-mod out_arcs;
+mod run;
+mod sorting;
 mod survey;
 
 pub use arc_view::ArcView;
 pub use heads::Heads;
 pub use local_graph::LocalGraph;
+pub use run::Run;
 
 #[cfg(test)]
 mod tests;

@@ -3,7 +3,7 @@ ghost use Rattle.std.specs.Prelude.{◌≡◌, ℕ, ◌+◌, ◌<◌, ◌≤◌,
 ghost use Rattle.std.specs.List.{slice_index_or};
 ghost use Rattle.list_laws.specs.Among.{is_among};
 ghost use Rattle.graph_model.specs.Graph.{most_nodes, most_edges, IsWithin, IsBySource};
-ghost use Rattle.graph_model.specs.declared.edge.Way.TheVariants.{Outward, Inward, Both};
+ghost use Rattle.graph_model.specs.declared.edge.Way.TheVariants.{Outward, Inward};
 ghost use Rattle.graph_division.specs.Lists.{is_readable, is_writable};
 ghost use Rattle.graph_division.specs.Shares.{Share, IsShare, nodes_of, in_file_order, seen, masters_here, proxies_here};
 ghost use Rattle.proxy_graph.specs.Heads.{vertex_at, heads_from};
@@ -11,11 +11,11 @@ ghost use Rattle.proxy_graph.specs.Numbering.{AreMarks};
 
 use crate::arc_view::ArcView;
 use crate::arcs::Arcs;
+use crate::columns::Columns;
 use crate::file_order::by_source;
-use crate::heads::Heads;
-use crate::in_arcs::in_arcs;
-use crate::numbering::numbered;
-use crate::out_arcs::out_arcs;
+use crate::numbering::Numbering;
+use crate::run::Run;
+use crate::sorting::{by_tail, sorted};
 use crate::survey::surveyed;
 use cusp_rules::Masters;
 use graph_model::{Edge, Way};
@@ -73,10 +73,10 @@ impl LocalGraph {
     {
         let (marks, is_by_source) = surveyed(alloc, nodes, edges)?;
         if is_by_source {
-            return LocalGraph::build(alloc, host, masters, nodes, &marks, edges);
+            return LocalGraph::build(alloc, host, masters, nodes, marks, edges);
         }
         let edges = by_source(alloc, nodes, edges)?;
-        LocalGraph::build(alloc, host, masters, nodes, &marks, edges.as_slice())
+        LocalGraph::build(alloc, host, masters, nodes, marks, edges.as_slice())
     }
 
     /// The local graph of edges whose sources do not fall and whose ends have marks.
@@ -85,7 +85,7 @@ impl LocalGraph {
         host: u16,
         masters: &Masters,
         nodes: u32,
-        marks: &UpdateBits,
+        marks: UpdateBits,
         edges: &[Edge],
     ) -> Result<LocalGraph, AllocError>
         requires host { host < masters.now.hosts }
@@ -94,16 +94,22 @@ impl LocalGraph {
         requires few_edges { length edges.now ≤ most_edges }
         requires within { All (IsWithin nodes) edges.now }
         requires by_source { IsBySource edges.now }
-        requires marks { AreMarks nodes edges.now marks.now }
+        requires marks { AreMarks nodes edges.now marks }
         ensures { IfOk result (λ graph. graph ≡ record { host = host; hosts = masters.now.hosts; masters = masters.now.masters; edges = edges.now }) }
     {
         let (first, end) = masters.range(host);
         let masters = masters.try_clone(alloc)?;
         let count = end - first;
-        let (table, mirrors) = numbered(alloc, first, count, marks)?;
+        let numbering = Numbering::new(alloc, first, count, marks)?;
+        let mirrors = numbering.mirrors(alloc)?;
         let proxies = count + mirrors.len() as u32;
-        let (out, counts) = out_arcs(alloc, proxies, &table, edges)?;
-        let back = in_arcs(alloc, &table, edges, &out.heads, counts)?;
+        let Columns {
+            tails,
+            heads,
+            weights,
+        } = Columns::new(alloc, &numbering, edges)?;
+        let back = sorted(alloc, proxies, &heads, &tails, &weights)?;
+        let out = by_tail(alloc, proxies, &tails, heads, weights)?;
         Ok(LocalGraph {
             host,
             nodes,
@@ -249,28 +255,25 @@ impl LocalGraph {
     }
 
     /// The out-arcs of a proxy.
-    pub(crate) fn out_heads<'a>(&'a self, tail: u32) -> Heads<'a>
+    pub(crate) fn out_run<'a>(&'a self, tail: u32) -> Run<'a>
         requires { tail < length (proxies_here self.now) }
         ensures { result ≡ heads_from Outward self.now tail }
     {
-        Heads::new(self.out.of(self.proxies(), tail))
+        self.out.of(self.proxies(), tail)
     }
 
     /// The in-arcs of a proxy.
-    pub(crate) fn in_heads<'a>(&'a self, tail: u32) -> Heads<'a>
+    pub(crate) fn in_run<'a>(&'a self, tail: u32) -> Run<'a>
         requires { tail < length (proxies_here self.now) }
         ensures { result ≡ heads_from Inward self.now tail }
     {
-        Heads::new(self.back.of(self.proxies(), tail))
+        self.back.of(self.proxies(), tail)
     }
 
-    /// The out-arcs of a proxy, and then its in-arcs.
-    pub(crate) fn both_heads<'a>(&'a self, tail: u32) -> Heads<'a>
-        requires { tail < length (proxies_here self.now) }
-        ensures { result ≡ heads_from Both self.now tail }
+    /// No arcs.
+    pub(crate) fn no_run<'a>(&'a self) -> Run<'a>
+        ensures { result ≡ [] }
     {
-        let proxies = self.proxies();
-        let heads = self.out.of(proxies, tail);
-        Heads::chained(heads, self.back.of(proxies, tail))
+        self.out.none()
     }
 }

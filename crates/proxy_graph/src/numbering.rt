@@ -1,10 +1,22 @@
 //! Local numbers for the vertices that have proxies on a host.
-ghost use Rattle.std.specs.Prelude.{◌≡◌, ℕ, ◌+◌, ◌<◌, ◌≤◌, length, slice_index, IfOk};
+ghost use Rattle.std.specs.Prelude.{◌≡◌, ◌^◌, ◌+◌, ◌<◌, ◌≤◌, length, slice_index, IfOk};
+ghost use Rattle.list_laws.specs.Members.{members};
 ghost use Rattle.graph_model.specs.Graph.{most_nodes};
-ghost use Rattle.proxy_graph.specs.Numbering.{is_hosted, AreNumbered};
+ghost use Rattle.proxy_graph.specs.Numbering.{is_hosted, table_of, Numbers};
 
 use std::alloc::{AllocError, Global};
-use update_bits::UpdateBits;
+use update_bits::{RankedBits, UpdateBits};
+
+/// The local numbers of a host's proxies. Masters lie side by side, and have their places in the row for
+/// their numbers; the number of a mirror is how many mirrors come before it, behind the masters.
+#[derive(Drop)]
+pub(crate) struct Numbering {
+    /// The first vertex whose master is here, and how many there are.
+    first: u32,
+    count: u32,
+    /// The vertices that have mirrors here.
+    mirrored: RankedBits,
+}
 
 /// Whether a vertex is among the `count` vertices from `first` on.
 fn is_hosted(first: u32, count: u32, v: u32) -> bool
@@ -13,43 +25,54 @@ fn is_hosted(first: u32, count: u32, v: u32) -> bool
     v >= first && v - first < count
 }
 
-/// Numbers the `count` masters from `first` on: each has its place among them.
-fn number_masters(first: u32, count: u32, table: &mut [u32])
-    requires few { length table.old ≤ most_nodes }
-    requires within { first + count ≤ length table.old }
-    ensures long { length table.new ≡ length table.old }
-    ensures places { (k : ℕ) → k < count → slice_index table.new (first + k) ≡ k }
-{
-    for place in 0..count {
-        table[(first + place) as usize] = place;
+impl Numbering {
+    /// The numbers of the `count` masters from `first` on, and of the other vertices that have a mark.
+    pub(crate) fn new(
+        alloc: Global,
+        first: u32,
+        count: u32,
+        marks: UpdateBits,
+    ) -> Result<Numbering, AllocError>
+        requires few { length marks ≤ most_nodes }
+        requires within { first + count ≤ length marks }
+        ensures { IfOk result (λ numbering. Numbers first count marks numbering) }
+    {
+        let mut mirrored = marks;
+        mirrored.clear_between(first, first + count);
+        Ok(Numbering {
+            first,
+            count,
+            mirrored: RankedBits::new(alloc, mirrored)?,
+        })
     }
-}
 
-/// The local numbers of vertices in a table of all of them, and the mirrors, rising: they are the
-/// vertices that have a mark and are not among the `count` masters from `first` on. Masters have the
-/// first numbers, and mirrors those that follow. The table has 0 for a vertex with no proxy.
-pub(crate) fn numbered(
-    alloc: Global,
-    first: u32,
-    count: u32,
-    marks: &UpdateBits,
-) -> Result<(Vec<u32>, Vec<u32>), AllocError>
-    requires few { length marks.now ≤ most_nodes }
-    requires within { first + count ≤ length marks.now }
-    ensures { IfOk result (λ lids. AreNumbered first count marks.now (length marks.now) lids.0.items lids.1.items) }
-{
-    let mut table = vec![in alloc; 0; marks.len() as usize]?;
-    number_masters(first, count, &mut table);
-    let mut mirrors = Vec::new(alloc);
-    let mut at = 0;
-    while let Some(v) = marks.next_from(at) {
-        if is_hosted(first, count, v) {
-            at = first + count;
+    /// The local number of a vertex that has a proxy here.
+    #[tactic(auto, using(crate::proofs::NumberingSteps::few_before))]
+    pub(crate) fn lid(&self, v: u32) -> u32
+        requires known { v < length self.now.mirrored }
+        requires few { self.now.count + length self.now.mirrored < 2 ^ 32 }
+        ensures { result ≡ slice_index (table_of self.now) v }
+    {
+        if is_hosted(self.first, self.count, v) {
+            v - self.first
         } else {
-            table[v as usize] = count + mirrors.len() as u32;
-            mirrors.push(v)?;
-            at = v + 1;
+            self.count + self.mirrored.rank(v)
         }
     }
-    Ok((table, mirrors))
+
+    /// The vertices of the mirrors, rising.
+    pub(crate) fn mirrors(&self, alloc: Global) -> Result<Vec<u32>, AllocError>
+        ensures { IfOk result (λ mirrors. mirrors.items ≡ members self.now.mirrored) }
+    {
+        let mirrored = self.mirrored.bits();
+        let nodes = mirrored.len();
+        let mut mirrors = Vec::with_capacity(alloc, mirrored.count() as usize)?;
+        let mut from = 0;
+        while let Some(v) = mirrored.next_from(from) {
+            prove!(v < nodes);
+            mirrors.push(v)?;
+            from = v + 1;
+        }
+        Ok(mirrors)
+    }
 }

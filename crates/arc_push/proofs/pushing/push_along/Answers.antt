@@ -1,86 +1,42 @@
-use Rattle.std.proofs.Common.{◌≡◌, ◌<◌, [], ◌∷◌, ◌++◌, length, get_or, set, ltb, refl, sym, ap, subst, ◌∙◌, arith, append_assoc}
+use Rattle.std.proofs.Common.{◌≡◌, ◌++◌, length, sym, ap, subst, ◌∙◌}
 use Rattle.std.specs.List.{All}
-use Rattle.std.proofs.lemmas.List.{append-nil, length-set}
-use Rattle.std.proofs.lemmas.List.Elements.{All-set}
-use Rattle.list_laws.specs.Members.{has_member}
 use Rattle.graph_division.specs.Shares.{masters_here, proxies_here}
 use Rattle.proxy_graph.specs.Heads.{heads_from}
-use Rattle.arc_push.specs.Pushing.{has_news, brought_by, Brings}
-use Rattle.arc_push.proofs.Followed.{followed_are_lent, along_lent, none_followed, one_followed}
+use Rattle.arc_push.specs.Pushing.{IsLent}
+use Rattle.arc_push.proofs.Followed.{Follows, follows_among, runs_are_lent, both_followed}
+use Rattle.arc_push.proofs.pushing.push_along.Given
 use Rattle.arc_push.proofs.pushing.push_along.Goals as goal
+use Rattle.arc_push.proofs.pushing.push_along.Goals.{After-runs_of-run}
 
--- what is the same as a value is one
-is_sent : {X : Type 0} (P : X → Type 0) {x y : X} → x ≡ y → P y → P x
-is_sent P e h = subst P (sym e) h
+-- both runs together are the arcs out of the tail
+parts : (g : Given.Over) (c : After-runs_of-run g) → c.runs_of-run.result.0 ++ c.runs_of-run.result.1 ≡ heads_from c.args.way c.args.graph.now c.args.tail
+parts g c =
+    c.runs_of-run.ensures ∙ ap (λ way. heads_from way c.arcs.result.share c.args.tail) c.arcs.ensures.way ∙ ap (λ share. heads_from c.args.way share c.args.tail) c.arcs.ensures.share
 
-pub loop-head-init : goal.loop-head-init
-loop-head-init g c = record {
-  order = c.into_iter-head-iterator.ensures.into_iter_gives ∙ c.heads_of-head-items.ensures
-      ∙ ap (λ way. heads_from way c.arcs.result.share c.args.tail) c.arcs.ensures.way ∙ ap (λ share. heads_from c.args.way share c.args.tail) c.arcs.ensures.share;
-  items_fit = refl;
-  news_fit = refl;
-  values = c.requires.items_are;
-  brings = λ start first before begins done.
-      none_followed g.met.P.Red.Reduction.laws (g.met.P.VertexProgram.laws c.args.program.now) (length (proxies_here c.args.graph.now)) c.args.y c.requires.is_shown
-      (length (masters_here c.args.graph.now)) start first begins before c.args.items.now c.args.news.now done;
-}
+-- they are lent
+lent : (g : Given.Over) (c : After-runs_of-run g) → All (IsLent (length (proxies_here c.args.graph.now))) c.runs_of-run.result.0 × All (IsLent (length (proxies_here c.args.graph.now))) c.runs_of-run.result.1
+lent g c = runs_are_lent c.args.way c.args.graph.now c.requires.is_share c.args.tail c.runs_of-run.result.0 c.runs_of-run.result.1 (parts g c)
 
-pub combine_into-requires-clause-has_item : goal.combine_into-requires-clause-has_item
-combine_into-requires-clause-has_item g c =
-    let lent = followed_are_lent c.args.way c.args.graph.now c.requires.is_share c.args.tail c.loop-head.yielded (c.in-Some.head, c.in-Some.weight) c.next.new.self c.loop-head.head-iterator c.loop-head.invariant.order c.in-Some.ensures.steps in
-    omega (arith, lent.1.head_known, c.loop-head.invariant.items_fit, c.requires.items_fit)
+pub push_run-requires-clause-are_lent : goal.push_run-requires-clause-are_lent
+push_run-requires-clause-are_lent g c =
+    subst (λ n. All (IsLent n) c.runs_of-run.result.0) (sym c.requires.items_fit) (lent g (goal.at.push_run-requires-clause-are_lent g c).After-runs_of-run).0
 
-pub combine_into-requires-clause-has_bit : goal.combine_into-requires-clause-has_bit
-combine_into-requires-clause-has_bit g c =
-    let lent = followed_are_lent c.args.way c.args.graph.now c.requires.is_share c.args.tail c.loop-head.yielded (c.in-Some.head, c.in-Some.weight) c.next.new.self c.loop-head.head-iterator c.loop-head.invariant.order c.in-Some.ensures.steps in
-    omega (arith, lent.1.head_known, c.loop-head.invariant.news_fit, c.requires.news_fit)
+pub push_run-requires-2-clause-are_lent : goal.push_run-requires-2-clause-are_lent
+push_run-requires-2-clause-are_lent g c =
+    subst (λ n. All (IsLent n) c.runs_of-run.result.1) (sym (c.push_run.ensures.items_fit ∙ c.requires.items_fit)) (lent g (goal.at.push_run-requires-2-clause-are_lent g c).After-runs_of-run).1
 
-pub combine_into-requires-clause-is_item : goal.combine_into-requires-clause-is_item
-combine_into-requires-clause-is_item g c =
-    let lent = followed_are_lent c.args.way c.args.graph.now c.requires.is_share c.args.tail c.loop-head.yielded (c.in-Some.head, c.in-Some.weight) c.next.new.self c.loop-head.head-iterator c.loop-head.invariant.order c.in-Some.ensures.steps in
-    is_sent g.P.Red.Item.Word.IsValue c.along.ensures
-    (along_lent g.met.P.Red.Reduction.laws (g.met.P.VertexProgram.laws c.args.program.now) (length (proxies_here c.args.graph.now)) c.args.y c.requires.is_shown (c.in-Some.head, c.in-Some.weight) lent.1)
-
-pub loop-head-preserved : goal.loop-head-preserved
-loop-head-preserved g c =
-    let head = c.in-Some.head in
-    let item = c.along.result in
-    let combine = g.P.Red.Reduction.reducer.combine in
-    let laws = g.met.P.Red.Reduction.laws in
-    let program = g.met.P.VertexProgram.laws c.args.program.now in
+pub returns-clause-brings : goal.returns-clause-brings
+returns-clause-brings g c =
+    let steps = g.P.VertexProgram.steps c.args.program.now in
+    let masters = length (masters_here c.args.graph.now) in
     let proxies = length (proxies_here c.args.graph.now) in
-    let P : g.row.P-Red-Item.Denot → Type 0 = g.P.Red.Item.Word.IsValue in
-    let lent = followed_are_lent c.args.way c.args.graph.now c.requires.is_share c.args.tail c.loop-head.yielded (c.in-Some.head, c.in-Some.weight) c.next.new.self c.loop-head.head-iterator c.loop-head.invariant.order c.in-Some.ensures.steps in
-    let is_item : P c.along.result
-    = is_sent g.P.Red.Item.Word.IsValue c.along.ensures (along_lent laws program proxies c.args.y c.requires.is_shown (c.in-Some.head, c.in-Some.weight) lent.1) in
-    let within : c.in-Some.head < length c.loop-head.items = omega (arith, lent.1.head_known, c.loop-head.invariant.items_fit, c.requires.items_fit) in
-    record {
-      order = append_assoc c.loop-head.yielded ((c.in-Some.head, c.in-Some.weight) ∷ []) c.next.new.self
-          ∙ sym (ap (λ zs. c.loop-head.yielded ++ zs) c.in-Some.ensures.steps) ∙ c.loop-head.invariant.order;
-      items_fit = ap length (c.combine_into.ensures.items item) ∙ length-set c.loop-head.items head _ ∙ c.loop-head.invariant.items_fit;
-      news_fit = ap length (c.combine_into.ensures.news item) ∙ length-set c.loop-head.news head _ ∙ c.loop-head.invariant.news_fit;
-      values = subst (All P) (sym (c.combine_into.ensures.items item))
-          (All-set P c.loop-head.items head (combine (get_or c.loop-head.items head item) item)
-          (laws.combine_is_value (get_or c.loop-head.items head item) item (c.loop-head.invariant.values head item within) is_item) c.loop-head.invariant.values);
-      brings = λ start first before begins done.
-          one_followed laws program proxies c.args.y c.requires.is_shown (length (masters_here c.args.graph.now)) start first begins before done.is_value
-          c.loop-head.yielded c.in-Some.head c.in-Some.weight lent.0 lent.1 c.loop-head.items c.loop-head.news (c.loop-head.invariant.brings start first before begins done)
-          c.along.result c.along.ensures c.combine_into.new.items c.combine_into.new.news
-          c.combine_into.ensures.items
-          (λ d. c.combine_into.ensures.news d
-          ∙ ap (λ masters. set c.loop-head.news head (has_news g.P.Red.Reduction.reducer (ltb head masters) (has_member c.loop-head.news head) (get_or c.loop-head.items head d) (combine (get_or c.loop-head.items head d) item))) c.masters-masters.ensures.masters);
-    }
-
-pub returns : goal.returns
-returns g c =
-    let all : c.loop-head.yielded ≡ heads_from c.args.way c.args.graph.now c.args.tail
-    = sym (append-nil c.loop-head.yielded) ∙ sym (ap (λ zs. c.loop-head.yielded ++ zs) c.in-None.ensures.steps.0) ∙ c.loop-head.invariant.order in
-    record {
-      brings = λ start first before begins done.
-          subst (λ arcs. Brings g.P.Red.Item.Word.IsValue g.P.Red.Reduction.reducer (length (masters_here c.args.graph.now)) (length (proxies_here c.args.graph.now))
-          (λ none l. g.P.Red.Reduction.reducer.combine (before none l) (brought_by g.P.Red.Reduction.reducer (g.P.VertexProgram.steps c.args.program.now) c.args.y arcs l)) start first c.loop-head.items c.loop-head.news)
-          all (c.loop-head.invariant.brings start first before begins done);
-      items_fit = c.loop-head.invariant.items_fit;
-      news_fit = c.loop-head.invariant.news_fit;
-      are_items = c.loop-head.invariant.values;
-    }
+    let run = c.runs_of-run.result.0 in
+    let next_run = c.runs_of-run.result.1 in
+    let runs = (goal.at.returns-clause-brings g c).After-runs_of-run in
+    let one = follows_among g.P.Red.Item.Word.IsValue g.P.Red.Reduction.reducer steps c.args.y c.masters-masters.ensures.masters c.requires.items_fit
+    run c.args.items.now c.args.news.now c.push_run.new.items c.push_run.new.news c.push_run.ensures.brings in
+    let other = follows_among g.P.Red.Item.Word.IsValue g.P.Red.Reduction.reducer steps c.args.y c.masters-masters.ensures.masters (c.push_run.ensures.items_fit ∙ c.requires.items_fit)
+    next_run c.push_run.new.items c.push_run.new.news c.push_run-2.new.items c.push_run-2.new.news c.push_run-2.ensures.brings in
+    subst (λ arcs. Follows g.P.Red.Item.Word.IsValue g.P.Red.Reduction.reducer steps c.args.y masters proxies arcs c.args.items.now c.args.news.now c.push_run-2.new.items c.push_run-2.new.news) (parts g runs)
+    (both_followed g.met.P.Red.Reduction.laws (g.met.P.VertexProgram.laws c.args.program.now) proxies c.args.y c.requires.is_shown masters run next_run (lent g runs).0 (lent g runs).1
+    c.args.items.now c.args.news.now c.push_run.new.items c.push_run.new.news c.push_run-2.new.items c.push_run-2.new.news one other)
