@@ -1,12 +1,13 @@
 -- Words and their marks: what calls make of both, and how a search goes by the marks.
-use Rattle.std.proofs.Common.{◌≡◌, ℕ, ◌+◌, ◌*◌, ◌/◌, ◌^◌, ◌<◌, ◌≤◌, true, false, List, length, get_or, replicate, sym, ap, subst, ◌∙◌, arith, inl, inr}
+use Rattle.std.proofs.Common.{◌≡◌, ℕ, ◌+◌, ◌*◌, ◌/◌, ◌^◌, ◌<◌, ◌≤◌, true, false, Bool, List, length, get_or, replicate, refl, sym, ap, subst, ◌∙◌, arith, inl, inr}
 use Rattle.std.specs.Prelude.{nat_lt, Option, Some, None}
 use Rattle.std.proofs.lemmas.Bool.{cases_eq, cases_lt, lt-ltb, true≢false}
 use Rattle.std.proofs.lemmas.List.{length-replicate}
 use Rattle.list_laws.specs.Bits.{bit_in}
 use Rattle.update_bits.specs.Words.{AreWords, AreMarks, IsNextBit}
 use Rattle.update_bits.proofs.Held.{OneBit, AreWords-one, AreWords-all, AreWords-none, bit_in-zeros, bit_in-past}
-use Rattle.update_bits.proofs.FirstBits.{none_in_word}
+use Rattle.std.specs.Int.{trailing_zeros, w64}
+use Rattle.update_bits.proofs.FirstBits.{first_later, none_in_word}
 
 -- ---- what a call makes of words and marks
 
@@ -31,6 +32,18 @@ AreMarks-set words new marks now i h inside one mark = record {
     | inr other ↦ one.others k (λ e. other (ap (λ n. n / 64) e)) ∙ h.marked k (sym (mark.others (k / 64) other) ∙ unmarked)
   ];
 }
+
+-- a word with a bit that is set has its mark
+pub has_mark : (words marks : List ℕ) (place : ℕ) → AreMarks words marks → get_or words place 0 < 2 ^ 64 → 0 < get_or words place 0 → bit_in marks place ≡ true
+has_mark words marks place h short some =
+    let found = first_later words (place * 64) place short some (omega arith) (λ k low high. absurd (omega arith)) in
+    let zeros = trailing_zeros w64 (get_or words place 0) in
+    let here : (place * 64 + zeros) / 64 ≡ place = omega (arith, found.0) in
+    split (bit_in marks place) refl here found.1.set
+  where
+    split : (b : Bool) → bit_in marks place ≡ b → (place * 64 + trailing_zeros w64 (get_or words place 0)) / 64 ≡ place → bit_in words (place * 64 + trailing_zeros w64 (get_or words place 0)) ≡ true → b ≡ true
+    split true is here set = refl
+    split false is here set = absurd (true≢false (sym set ∙ h.marked (place * 64 + trailing_zeros w64 (get_or words place 0)) (ap (bit_in marks) here ∙ is)))
 
 -- where each word has its mark the words may be any
 pub AreMarks-all : (words new marks now : List ℕ) → AreMarks words marks → length new ≡ length words → length now ≡ length marks → ((k : ℕ) → bit_in now k ≡ nat_lt k (length new)) → AreMarks new now

@@ -1,10 +1,10 @@
 //! Words whose marks say where bits may be set.
-ghost use Rattle.std.specs.Prelude.{◌≡◌, ◌≢◌, ℕ, ◌*◌, ◌<◌, ◌≤◌, ◌^◌, false, length, slice_index};
+ghost use Rattle.std.specs.Prelude.{◌≡◌, ◌≢◌, ℕ, ◌*◌, ◌<◌, ◌≤◌, ◌^◌, true, false, length, slice_index};
 ghost use Rattle.list_laws.specs.Bits.{bit_in};
 ghost use Rattle.update_bits.specs.Words.{AreMarks, IsNextBit};
 
 use crate::spans::clear_words;
-use crate::words::{next_bit, next_in_word};
+use crate::words::{next_bit, next_in_word, set_bit};
 
 /// The first bit that is set, from bit `i` on. Past the word of `i` only words with a mark are looked at.
 pub(crate) fn next_marked(words: &[u64], marks: &[u64], i: u32) -> Option<u32>
@@ -37,6 +37,19 @@ fn next_from_word(words: &[u64], marks: &[u64], start: u32) -> Option<u32>
         from = place + 1;
     }
     None
+}
+
+/// Sets the mark of the word at `place`, which has it already where a bit of the word is set: then nothing is
+/// written.
+pub(crate) fn mark_word(words: &[u64], marks: &mut [u64], place: u32)
+    requires within { place < length words.now }
+    requires marks { AreMarks words.now marks.old }
+    ensures set { bit_in marks.new place ≡ true }
+    ensures others { (k : ℕ) → k ≢ place → bit_in marks.new k ≡ bit_in marks.old k }
+{
+    if words[place as usize] == 0 {
+        set_bit(marks, place);
+    }
 }
 
 /// Clears every bit of the words and of their marks. Words without a mark are passed over.

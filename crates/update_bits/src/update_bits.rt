@@ -14,7 +14,7 @@ ghost use Rattle.list_laws.specs.Members.{
   IsNextMember,
 };
 
-use crate::marks::{clear_marked, next_marked};
+use crate::marks::{clear_marked, mark_word, next_marked};
 use crate::spans::clear_bits;
 use crate::words::{clear_bit, count_bits, fill_bits, set_bit, test_bit, word_of_nth, words_for};
 use std::alloc::{AllocError, Global};
@@ -82,8 +82,8 @@ impl UpdateBits {
         requires { i < length self.old }
         ensures { self.new ≡ with_member self.old i }
     {
+        mark_word(&self.words, &mut self.marks, i / 64);
         set_bit(&mut self.words, i);
-        set_bit(&mut self.marks, i / 64);
     }
 
     /// Takes `i`, a number below the length, out of the set. The other numbers stay as they are.
