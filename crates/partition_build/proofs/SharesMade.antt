@@ -1,5 +1,5 @@
 -- The shares that are made of rooms are those of the rules.
-use Rattle.std.proofs.Common.{◌≡◌, ℕ, zero, suc, ◌+◌, ◌<◌, Bool, cond, ◌==◌, List, [], ◌∷◌, ◌++◌, length, map, slice_index, slice_index_or, Vec, Global, Result, Ok, Err, IfOk, refl, sym, ap, ◌∙◌, subst, append_assoc, arith}
+use Rattle.std.proofs.Common.{◌≡◌, ℕ, zero, suc, ◌+◌, ◌<◌, Bool, true, cond, ◌==◌, List, [], ◌∷◌, ◌++◌, length, map, slice_index, slice_index_or, Vec, Global, Result, Ok, Err, IfOk, refl, sym, ap, ◌∙◌, subst, append_assoc, arith}
 use Rattle.std.specs.List.{All, filter, range_with_len}
 use Rattle.std.proofs.lemmas.List.Elements.{All-filter}
 use Rattle.std.proofs.lemmas.List.Kept.{IsNonDecreasingBy-filter}
@@ -21,6 +21,13 @@ filter_agree p q [] agree = refl
 filter_agree p q (x ∷ xs) agree =
     ap (λ b. cond b (x ∷ filter p xs) (filter p xs)) (agree 0 x (omega arith))
     ∙ ap (λ ys. cond (q x) (x ∷ ys) ys) (filter_agree p q xs (λ k d within. agree (suc k) d (omega arith)))
+
+-- a test that all pass keeps all
+pub filter_all : {X : Type 0} (p : X → Bool) (xs : List X) → All (λ x. p x ≡ true) xs → filter p xs ≡ xs
+filter_all p [] passes = refl
+filter_all p (x ∷ xs) passes =
+    ap (λ b. cond b (x ∷ filter p xs) (filter p xs)) (passes 0 x (omega arith))
+    ∙ ap (λ ys. x ∷ ys) (filter_all p xs (λ k d within. passes (suc k) d (omega arith)))
 
 -- what holds of an answer
 pub IfOk-map : {X E : Type 0} (r : Result X E) (P Q : X → Type 0) → ((x : X) → P x → Q x) → IfOk r P → IfOk r Q

@@ -51,3 +51,19 @@ pub(crate) fn assemble_by_source(
     }
     Ok(graphs)
 }
+
+/// The local graph of the one host there is, with all edges of the list, which is given up.
+pub(crate) fn assemble_alone(
+    alloc: Global,
+    list: EdgeList,
+    plan: &SharePlan,
+) -> Result<Vec<LocalGraph>, AllocError>
+    requires nodes { list.nodes ≡ length plan.now.masters }
+    requires alone { plan.now.hosts ≡ 1 }
+    ensures { IfOk result (λ graphs. graphs.items ≡ shares_by_source plan.now list plan.now.hosts) }
+{
+    let graph = LocalGraph::assemble_list(alloc, 0, plan.masters(), list)?;
+    let mut graphs = Vec::with_capacity(alloc, usize::from(graph.hosts()))?;
+    graphs.push(graph)?;
+    Ok(graphs)
+}

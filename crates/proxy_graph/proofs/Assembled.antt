@@ -19,6 +19,7 @@ use Rattle.graph_division.specs.Lists.{is_mirror, is_readable, is_writable}
 use Rattle.graph_division.specs.Shares.{Share, IsShare, nodes_of, seen, masters_here, mirrors_here, proxies_here}
 use Rattle.graph_division.proofs.PrunedLists.{range_rises}
 use Rattle.graph_division.proofs.FileOrder.{joined_same, filter_none, file_order_stays}
+use Rattle.proxy_graph.specs.Drafts.{AreProxies, IsDraftOf}
 use Rattle.proxy_graph.specs.Heads.{lid_of, vertex_at}
 use Rattle.proxy_graph.specs.Keyed.{with_key}
 use Rattle.proxy_graph.specs.Runs.{KeepsArcs, arcs_at, count_at, pairs_of, part_of, start_at}
@@ -89,14 +90,6 @@ have_ends edges k d within =
     }
 
 -- ---- the proxies
-
--- masters lie in a row, ends of edges have marks, and the vertices that are hosted or have a mark are numbered
-pub record AreProxies (share : Share) (first count : ℕ) (marks : List Bool) (table mirrors : List ℕ) : Type 0 where
-  pub within : All (IsWithin (nodes_of share)) share.edges
-  pub vertices : (v : ℕ) → v < nodes_of share → (slice_index share.masters v ≡ share.host) ↔ ((first ≤ v) × (v < first + count))
-  pub row : first + count ≤ nodes_of share
-  pub marked : AreMarks (nodes_of share) share.edges marks
-  pub numbered : AreNumbered first count marks (nodes_of share) table mirrors
 
 module _ {share : Share} {first count : ℕ} {marks : List Bool} {table mirrors : List ℕ} (are : AreProxies share first count marks table mirrors) where
   -- a vertex is in the row where its master is here

@@ -6,3 +6,4 @@ pub mod Sides
 pub mod Counting
 pub mod Sorting
 pub mod Numbering
+pub mod Drafts

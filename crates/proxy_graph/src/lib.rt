@@ -5,6 +5,7 @@
 mod arc_view;
 mod arcs;
 mod columns;
+mod draft;
 mod file_order;
 mod heads;
 mod local_graph;

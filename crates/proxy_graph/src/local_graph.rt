@@ -2,26 +2,23 @@
 ghost use Rattle.std.specs.Prelude.{◌≡◌, ℕ, ◌+◌, ◌<◌, ◌≤◌, false, [], length, slice_get, slice_index, All, IfOk, MatchOption, Some};
 ghost use Rattle.std.specs.List.{slice_index_or};
 ghost use Rattle.list_laws.specs.Among.{is_among};
-ghost use Rattle.graph_model.specs.Graph.{most_nodes, most_edges, IsWithin, IsBySource};
+ghost use Rattle.graph_model.specs.Graph.{most_nodes, most_edges, IsWithin};
 ghost use Rattle.graph_model.specs.declared.edge.Way.TheVariants.{Outward, Inward};
 ghost use Rattle.graph_division.specs.Lists.{is_readable, is_writable};
 ghost use Rattle.graph_division.specs.Shares.{Share, IsShare, nodes_of, in_file_order, seen, masters_here, proxies_here};
 ghost use Rattle.proxy_graph.specs.Heads.{vertex_at, heads_from};
-ghost use Rattle.proxy_graph.specs.Numbering.{AreMarks};
+ghost use Rattle.proxy_graph.specs.Drafts.{IsDraft, IsDraftOf};
 
 use crate::arc_view::ArcView;
 use crate::arcs::Arcs;
 use crate::columns::Columns;
-use crate::file_order::by_source;
-use crate::numbering::Numbering;
+use crate::draft::Draft;
 use crate::run::Run;
 use crate::sorting::{by_tail, sorted};
-use crate::survey::surveyed;
 use cusp_rules::Masters;
-use graph_model::{Edge, Way};
+use graph_model::{Edge, EdgeList, Way};
 use std::alloc::{AllocError, Global};
 use std::marker::Model;
-use update_bits::UpdateBits;
 
 /// One host's part of a divided graph: the host's edges, and a proxy for each vertex whose master is
 /// here or that is an end of one of these edges. Proxies have local numbers: masters first, then
@@ -71,43 +68,47 @@ impl LocalGraph {
         requires within { All (IsWithin nodes) edges.now }
         ensures { IfOk result (λ graph. graph ≡ record { host = host; hosts = masters.now.hosts; masters = masters.now.masters; edges = in_file_order nodes edges.now }) }
     {
-        let (marks, is_by_source) = surveyed(alloc, nodes, edges)?;
-        if is_by_source {
-            return LocalGraph::build(alloc, host, masters, nodes, marks, edges);
-        }
-        let edges = by_source(alloc, nodes, edges)?;
-        LocalGraph::build(alloc, host, masters, nodes, marks, edges.as_slice())
+        let draft = Draft::new(alloc, host, masters, nodes, edges)?;
+        LocalGraph::of_draft(alloc, draft)
     }
 
-    /// The local graph of edges whose sources do not fall and whose ends have marks.
-    fn build(
+    /// The local graph of a host, which is below the number of hosts, with all edges of this list, whose
+    /// nodes are the vertices that have masters. The list is given up as soon as its edges are written down
+    /// by column, before they are laid by their ends.
+    pub fn assemble_list(
         alloc: Global,
         host: u16,
         masters: &Masters,
-        nodes: u32,
-        marks: UpdateBits,
-        edges: &[Edge],
+        list: EdgeList,
     ) -> Result<LocalGraph, AllocError>
         requires host { host < masters.now.hosts }
-        requires nodes { nodes ≡ length masters.now.masters }
-        requires few_nodes { nodes ≤ most_nodes }
-        requires few_edges { length edges.now ≤ most_edges }
-        requires within { All (IsWithin nodes) edges.now }
-        requires by_source { IsBySource edges.now }
-        requires marks { AreMarks nodes edges.now marks }
-        ensures { IfOk result (λ graph. graph ≡ record { host = host; hosts = masters.now.hosts; masters = masters.now.masters; edges = edges.now }) }
+        requires nodes { list.nodes ≡ length masters.now.masters }
+        ensures { IfOk result (λ graph. graph ≡ record { host = host; hosts = masters.now.hosts; masters = masters.now.masters; edges = list.edges }) }
     {
-        let (first, end) = masters.range(host);
-        let masters = masters.try_clone(alloc)?;
-        let count = end - first;
-        let numbering = Numbering::new(alloc, first, count, marks)?;
-        let mirrors = numbering.mirrors(alloc)?;
-        let proxies = count + mirrors.len() as u32;
+        let draft = Draft::of_list(alloc, host, masters, list)?;
+        LocalGraph::of_draft(alloc, draft)
+    }
+
+    /// The local graph that this is a draft of.
+    fn of_draft(alloc: Global, draft: Draft) -> Result<LocalGraph, AllocError>
+        requires { IsDraft draft }
+        ensures { (share : Share) → IsDraftOf share draft → IfOk result (λ graph. graph ≡ share) }
+    {
+        let Draft {
+            host,
+            nodes,
+            masters,
+            first,
+            count,
+            mirrors,
+            columns,
+        } = draft;
         let Columns {
             tails,
             heads,
             weights,
-        } = Columns::new(alloc, &numbering, edges)?;
+        } = columns;
+        let proxies = count + mirrors.len() as u32;
         let back = sorted(alloc, proxies, &heads, &tails, &weights)?;
         let out = by_tail(alloc, proxies, &tails, heads, weights)?;
         Ok(LocalGraph {

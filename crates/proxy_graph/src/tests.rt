@@ -6,7 +6,7 @@ ghost use Rattle.graph_division.specs.Shares.{nodes_of};
 
 use crate::LocalGraph;
 use cusp_rules::{MasterRule, Masters};
-use graph_model::{Edge, Way};
+use graph_model::{Edge, EdgeList, Way};
 use std::alloc::{AllocError, Global};
 use std::process::Abort;
 use std::test::Fail;
@@ -48,6 +48,25 @@ fn assembled(
     assert!(rt; are_within(nodes, edges));
     let masters = Masters::new(alloc, MasterRule::Edges, 2, starts)?;
     Ok(LocalGraph::assemble(alloc, host, &masters, nodes, edges)?)
+}
+
+/// The same of a list with the edge from 0 to 1 of weight 7, where these are the starts of two vertices.
+fn assembled_list(
+    rt: &impl Abort,
+    alloc: Global,
+    host: u16,
+    starts: &[u32],
+) -> Result<LocalGraph, Fail> {
+    assert!(rt; host < 2 && starts.len() == 3);
+    assert!(rt; are_starts(starts));
+    let only = Edge {
+        src: 0,
+        dst: 1,
+        weight: 7,
+    };
+    let list = EdgeList::from_parts(2, vec![in alloc; only]?);
+    let masters = Masters::new(alloc, MasterRule::Edges, 2, starts)?;
+    Ok(LocalGraph::assemble_list(alloc, host, &masters, list)?)
 }
 
 /// The heads of the arcs out of a proxy of this graph.
@@ -149,5 +168,18 @@ fn arcs_are_lent_in_file_order(rt: HostRuntime) -> Result<(), Fail> {
     }
     let graph = assembled(&rt, rt.alloc(), 1, &[0], &[])?;
     assert_eq!(rt; graph.proxies(), 0);
+    Ok(())
+}
+
+#[test]
+fn a_list_that_is_given_up_gives_the_same(rt: HostRuntime) -> Result<(), Fail> {
+    let starts: &[u32] = &[0, 1, 1];
+    for host in 0..2 {
+        let lent = assembled(&rt, rt.alloc(), host, starts, &[edge(0, 1, 7)])?;
+        let given = assembled_list(&rt, rt.alloc(), host, starts)?;
+        let want = proxies(rt.alloc(), &lent)?;
+        assert_eq!(rt; (given.host(), given.edges()), (host, 1));
+        assert_eq!(rt; proxies(rt.alloc(), &given)?.as_slice(), want.as_slice());
+    }
     Ok(())
 }

@@ -1,33 +1,4 @@
-use Rattle.std.proofs.Common.{rules, IfOk, ◌≡◌, List, length, ap, sym, ◌∙◌, arith, subst}
-use Rattle.std.specs.List.{All}
-use Rattle.graph_model.specs.Graph.{IsWithin, IsBySource}
-use Rattle.graph_model.specs.declared.edge.Edge.{Edge}
-use Rattle.graph_division.proofs.FileOrder.{file_order_stays}
-use Rattle.proxy_graph.specs.Numbering.{AreMarks}
-use Rattle.proxy_graph.proofs.InFileOrder.{few_in_file_order, All-in_file_order, IsBySource-in_file_order, marks_in_file_order}
 use Rattle.proxy_graph.proofs.local_graph.LocalGraph.assemble.Goals as goal
 
-pub returns-then-is_by_source : goal.returns-then-is_by_source
-returns-then-is_by_source c =
-    let stays = file_order_stays c.args.nodes c.args.edges.now c.requires.within (c.in_ok-marks.ensures.order (search rules)) in
-    let P : List Edge → Type 0 = λ edges. IfOk c.build.result (λ graph. graph ≡ record { host = c.args.host; hosts = c.args.masters.now.hosts; masters = c.args.masters.now.masters; edges = edges }) in
-    subst P (sym stays) c.build.ensures
-
-pub build-requires-2-clause-few_edges : goal.build-requires-2-clause-few_edges
-build-requires-2-clause-few_edges c =
-    omega (arith, ap length (c.as_slice.ensures.value ∙ c.in_ok-edges.ensures), few_in_file_order c.args.nodes c.args.edges.now, c.requires.few_edges)
-
-pub build-requires-2-clause-within : goal.build-requires-2-clause-within
-build-requires-2-clause-within c =
-    let P : List Edge → Type 0 = All (IsWithin c.args.nodes) in
-    subst P (sym (c.as_slice.ensures.value ∙ c.in_ok-edges.ensures)) (All-in_file_order (IsWithin c.args.nodes) c.args.nodes c.args.edges.now c.requires.within)
-
-pub build-requires-2-clause-by_source : goal.build-requires-2-clause-by_source
-build-requires-2-clause-by_source c =
-    let P : List Edge → Type 0 = IsBySource in
-    subst P (sym (c.as_slice.ensures.value ∙ c.in_ok-edges.ensures)) (IsBySource-in_file_order c.args.nodes c.args.edges.now)
-
-pub build-requires-2-clause-marks : goal.build-requires-2-clause-marks
-build-requires-2-clause-marks c =
-    let P : List Edge → Type 0 = λ edges. AreMarks c.args.nodes edges c.in_ok-marks.marks in
-    subst P (sym (c.as_slice.ensures.value ∙ c.in_ok-edges.ensures)) (marks_in_file_order c.args.nodes c.args.edges.now c.in_ok-marks.marks c.requires.within c.in_ok-marks.ensures.marks)
+pub returns : goal.returns
+returns c = c.of_draft.ensures _ c.in_ok-draft.ensures
