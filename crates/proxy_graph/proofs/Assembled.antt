@@ -19,7 +19,7 @@ use Rattle.graph_division.specs.Lists.{is_mirror, is_readable, is_writable}
 use Rattle.graph_division.specs.Shares.{Share, IsShare, nodes_of, seen, masters_here, mirrors_here, proxies_here}
 use Rattle.graph_division.proofs.PrunedLists.{range_rises}
 use Rattle.graph_division.proofs.FileOrder.{joined_same, filter_none, file_order_stays}
-use Rattle.proxy_graph.specs.Drafts.{AreProxies, IsDraftOf}
+use Rattle.proxy_graph.specs.Drafts.{AreProxies}
 use Rattle.proxy_graph.specs.Heads.{lid_of, vertex_at}
 use Rattle.proxy_graph.specs.Keyed.{with_key}
 use Rattle.proxy_graph.specs.Runs.{KeepsArcs, arcs_at, count_at, pairs_of, part_of, start_at}

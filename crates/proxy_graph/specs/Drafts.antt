@@ -1,8 +1,7 @@
 -- What a draft of a local graph holds of its share.
-use Rattle.std.specs.Prelude.{◌≡◌, ◌↔◌, ℕ, ◌+◌, ◌<◌, ◌≤◌, Bool, List, length, map, slice_index}
+use Rattle.std.specs.Prelude.{◌≡◌, ◌↔◌, ℕ, ◌+◌, ◌<◌, ◌≤◌, Bool, List, map, slice_index}
 use Rattle.std.specs.List.{All}
 use Rattle.graph_model.specs.Graph.{IsWithin}
-use Rattle.graph_model.specs.declared.edge.Edge.{Edge}
 use Rattle.graph_division.specs.Shares.{Share, IsShare, nodes_of}
 use Rattle.proxy_graph.specs.Numbering.{AreMarks, AreNumbered}
 use Rattle.proxy_graph.specs.Sides.{Out, key_of, end_of}

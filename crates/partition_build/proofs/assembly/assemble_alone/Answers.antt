@@ -1,12 +1,11 @@
-use Rattle.std.proofs.Common.{◌≡◌, ◌<◌, true, [], ◌∷◌, ◌++◌, ◌==◌, ℕ, List, length, slice_index, slice_index_or, refl, sym, ap, ◌∙◌, subst, arith}
-use Rattle.std.specs.List.{All}
+use Rattle.std.proofs.Common.{◌≡◌, ◌<◌, true, [], ◌∷◌, ◌++◌, ◌==◌, ℕ, List, length, slice_index, slice_index_or, refl, sym, ap, ◌∙◌, arith}
 use Rattle.std.proofs.lemmas.Bool.{eq-eqb}
 use Rattle.graph_model.specs.Graph.{Graph, IsWithin}
 use Rattle.graph_model.specs.declared.edge.Edge.{Edge}
 use Rattle.graph_division.specs.Shares.{Share, IsShare, nodes_of, in_file_order}
 use Rattle.graph_division.proofs.FileOrder.{file_order_stays}
 use Rattle.share_plan.specs.Plan.{Plan}
-use Rattle.partition_build.specs.Rooms.{share_by, edges_from, shares_by_source}
+use Rattle.partition_build.specs.Rooms.{edges_from, shares_by_source}
 use Rattle.partition_build.proofs.SharesMade.{filter_all}
 use Rattle.partition_build.proofs.assembly.assemble_alone.Goals as goal
 

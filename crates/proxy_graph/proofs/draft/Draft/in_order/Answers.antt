@@ -1,4 +1,4 @@
-use Rattle.std.proofs.Common.{◌≡◌, ℕ, ◌-◌, ◌<◌, ◌≤◌, List, length, arith, ap, sym, subst, refl}
+use Rattle.std.proofs.Common.{ℕ, ◌-◌, List, length, arith, ap, sym, subst, refl}
 use Rattle.std.specs.List.{All}
 use Rattle.std.proofs.lemmas.List.Elements.{All-weaker}
 use Rattle.graph_model.specs.Graph.{IsWithin}

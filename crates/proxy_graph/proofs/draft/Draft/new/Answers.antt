@@ -1,4 +1,4 @@
-use Rattle.std.proofs.Common.{rules, IfOk, ◌≡◌, List, length, ap, sym, ◌∙◌, arith, subst}
+use Rattle.std.proofs.Common.{rules, IfOk, List, length, ap, sym, ◌∙◌, arith, subst}
 use Rattle.std.specs.List.{All}
 use Rattle.graph_model.specs.Graph.{IsWithin, IsBySource}
 use Rattle.graph_model.specs.declared.edge.Edge.{Edge}

@@ -1,6 +1,4 @@
-use Rattle.std.proofs.Common.{◌≡◌, ℕ, IfOk, List, ap, sym, ◌∙◌, subst}
-use Rattle.std.specs.List.{All}
-use Rattle.graph_model.specs.Graph.{IsWithin}
+use Rattle.std.proofs.Common.{◌≡◌, ℕ, IfOk, List, ap, ◌∙◌, subst}
 use Rattle.graph_model.specs.declared.edge.Edge.{Edge}
 use Rattle.graph_division.specs.Shares.{in_file_order}
 use Rattle.graph_division.proofs.FileOrder.{file_order_stays}
