@@ -1,5 +1,5 @@
 //! The arcs of a host's edges, column by column.
-ghost use Rattle.std.specs.Prelude.{◌≡◌, ◌^◌, ◌+◌, ◌<◌, ◌≤◌, length, map, All, IfOk, OnOk};
+ghost use Rattle.std.specs.Prelude.{◌≡◌, ◌^◌, ◌+◌, ◌<◌, ◌≤◌, length, map, slice_index, All, IfOk, IfSome, OnOk};
 ghost use Rattle.graph_model.specs.Graph.{most_edges, IsWithin, IsWeighed};
 ghost use Rattle.proxy_graph.specs.Numbering.{table_of};
 ghost use Rattle.proxy_graph.specs.Sides.{Out, key_of, end_of};
@@ -24,6 +24,20 @@ fn weight_of(edge: Edge) -> u32
     edge.weight
 }
 
+/// The local number of a source. In `before` are the source of the edge before and its number, which is
+/// taken again where this source is the same.
+fn tail_of(numbering: &Numbering, before: Option<(u32, u32)>, source: u32) -> u32
+    requires known { source < length numbering.now.mirrored }
+    requires few { numbering.now.count + length numbering.now.mirrored < 2 ^ 32 }
+    requires before { IfSome before (λ known. known.1 ≡ slice_index (table_of numbering.now) known.0) }
+    ensures { result ≡ slice_index (table_of numbering.now) source }
+{
+    match before {
+        Some((last, tail)) if last == source => tail,
+        _ => numbering.lid(source),
+    }
+}
+
 impl Columns {
     /// The arcs of these edges, whose ends have proxies here.
     pub(crate) fn new(
@@ -42,8 +56,11 @@ impl Columns {
         let mut tails = Vec::with_capacity(alloc, edges.len())?;
         let mut heads = Vec::with_capacity(alloc, edges.len())?;
         let mut weights = Vec::with_capacity(alloc, edges.len())?;
+        let mut before = None;
         for edge in edges {
-            tails.push(numbering.lid(edge.src))?;
+            let tail = tail_of(numbering, before, edge.src);
+            before = Some((edge.src, tail));
+            tails.push(tail)?;
             heads.push(numbering.lid(edge.dst))?;
             weights.push(weight_of(*edge))?;
         }

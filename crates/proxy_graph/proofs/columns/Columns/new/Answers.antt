@@ -31,8 +31,9 @@ loop-edge-preserved c =
     let within = c.loop-edge-test.true in
     let so_far = c.loop-edge.invariant in
     record {
-      tails = longer (key_of Out table) edges at c.loop-edge.tails.items _ c.lid.result within so_far.tails c.lid.ensures c.in_ok-push.ensures.items;
-      heads = longer (end_of Out table) edges at c.loop-edge.heads.items _ c.lid-in-loop-edge.result within so_far.heads c.lid-in-loop-edge.ensures c.in_ok-push-2.ensures.items;
+      tails = longer (key_of Out table) edges at c.loop-edge.tails.items _ c.tail_of-tail.result within so_far.tails c.tail_of-tail.ensures c.in_ok-push.ensures.items;
+      heads = longer (end_of Out table) edges at c.loop-edge.heads.items _ c.lid.result within so_far.heads c.lid.ensures c.in_ok-push-2.ensures.items;
       weights = longer (λ edge. edge.weight) edges at c.loop-edge.weights.items _ c.weight_of.result within so_far.weights c.weight_of.ensures c.in_ok-push-3.ensures.items;
       weighed = one_more edges at within so_far.weighed (rw c.weight_of.ensures at c.weight_of.type_inv);
+      before = c.tail_of-tail.ensures;
     }

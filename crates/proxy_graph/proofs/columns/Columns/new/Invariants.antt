@@ -1,4 +1,4 @@
-use Rattle.std.proofs.Common.{◌≡◌, map, take}
+use Rattle.std.proofs.Common.{◌≡◌, IfSome, map, slice_index, take}
 use Rattle.std.specs.List.{All}
 use Rattle.graph_model.specs.Graph.{IsWeighed}
 use Rattle.proxy_graph.specs.Numbering.{table_of}
@@ -11,4 +11,5 @@ invariant-loop-edge l = record {
   heads : l.heads.items ≡ map (end_of Out (table_of l.numbering)) (take l.edge-index l.edges);
   weights : l.weights.items ≡ map (λ edge. edge.weight) (take l.edge-index l.edges);
   weighed : All IsWeighed (take l.edge-index l.edges);
+  before : IfSome l.before (λ known. known.1 ≡ slice_index (table_of l.numbering) known.0);
 }
