@@ -4,7 +4,6 @@ use Rattle.std.specs.List.{All, filter, list_any, range_with_len}
 use Rattle.std.specs.List.Sorted.{IsStrictlyIncreasing}
 use Rattle.std.proofs.lemmas.Bool.{and_parts, eq-eqb, eqb-true, ne_eqb, or_right}
 use Rattle.std.proofs.lemmas.Bool.Decides.{eqb_tells}
-use Rattle.std.proofs.lemmas.List.{get_or_past}
 use Rattle.std.proofs.lemmas.List.Elements.{All-head, All-map, All-tail, All-weaker, filter-append}
 use Rattle.std.proofs.lemmas.List.Folds.{list_any_at}
 use Rattle.std.proofs.lemmas.List.Kept.{IsStrictlyIncreasing-filter}
@@ -22,7 +21,7 @@ use Rattle.graph_division.proofs.FileOrder.{joined_same, filter_none, file_order
 use Rattle.proxy_graph.specs.Drafts.{AreProxies}
 use Rattle.proxy_graph.specs.Heads.{lid_of, vertex_at}
 use Rattle.proxy_graph.specs.Keyed.{with_key}
-use Rattle.proxy_graph.specs.Runs.{KeepsArcs, arcs_at, count_at, pairs_of, part_of, start_at}
+use Rattle.proxy_graph.specs.Runs.{KeepsArcs, arcs_at}
 use Rattle.proxy_graph.specs.Sides.{Side, Out, Back, AreSorted, arc_of, arc_pair, key_of, end_of}
 use Rattle.proxy_graph.specs.Numbering.{is_hosted, is_end, is_mirrored, AreMarks, AreNumbered, IsLidOf}
 use Rattle.proxy_graph.specs.Kept.{edge_from, edges_of, share_of, proxies_of, Keeps, IsKept}
@@ -31,6 +30,7 @@ use Rattle.proxy_graph.specs.declared.arcs.Arcs.{Arcs}
 use Rattle.proxy_graph.proofs.Keyed.{picked_pass}
 use Rattle.proxy_graph.proofs.NumberingSteps.{hosted_is}
 use Rattle.proxy_graph.proofs.Ranges.{picked_same, picked_none, picked_all, range_parts}
+use Rattle.proxy_graph.proofs.Starts.{arcs_behind}
 use Rattle.proxy_graph.proofs.Lids.{hosted_true, hosted_before, hosted_behind, lid_is_place, place_is, place_none, lid_among}
 
 -- ---- truth values
@@ -196,15 +196,17 @@ module _ (share : Share) (table : List ℕ) (only : OnlyPlaces share) where
   pub keeps_out : (arcs : Arcs) → All (IsNamed share table) share.edges → AreSorted Out (length (proxies_here share)) table share.edges arcs → KeepsArcs Outward share arcs
   keeps_out arcs named sorted = record {
     runs = sorted.runs;
+    few = sorted.few;
     all = sorted.all;
-    here = λ lid known. sorted.here lid known ∙ arcs_are Out lid known share.edges named;
+    here = λ lid known. sorted.here lid ∙ arcs_are Out lid known share.edges named;
   }
 
   pub keeps_back : (arcs : Arcs) → All (IsNamed share table) share.edges → AreSorted Back (length (proxies_here share)) table share.edges arcs → KeepsArcs Inward share arcs
   keeps_back arcs named sorted = record {
     runs = sorted.runs;
+    few = sorted.few;
     all = sorted.all;
-    here = λ lid known. sorted.here lid known ∙ arcs_are Back lid known share.edges named;
+    here = λ lid known. sorted.here lid ∙ arcs_are Back lid known share.edges named;
   }
 
 -- ---- the edges that the arcs stand for
@@ -238,10 +240,7 @@ module _ (share : Share) (arcs : Arcs) (only : OnlyPlaces share) (keeps : KeepsA
 
   -- a vertex with no proxy has no arcs
   no_arcs : arcs_at arcs (length (proxies_here share)) ≡ []
-  no_arcs =
-      let keys = length (proxies_here share) in
-      let none : count_at arcs keys ≡ 0 = omega (arith, get_or_past arcs.starts.items (keys + 1) 0 (omega (arith, keeps.runs.started))) in
-      ap (λ (n : ℕ). part_of (start_at arcs keys) n (pairs_of arcs)) none
+  no_arcs = arcs_behind arcs (length (proxies_here share)) keeps.few
 
   -- the edges from each vertex
   edges_from : (v : ℕ) → All (λ edge. is_among (proxies_here share) edge.src ≡ true) share.edges → All (λ edge. is_among (proxies_here share) edge.dst ≡ true) share.edges

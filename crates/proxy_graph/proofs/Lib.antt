@@ -1,4 +1,5 @@
 pub mod Pairs
+pub mod Starts
 pub mod Read
 pub mod Keyed
 pub mod CountingSteps

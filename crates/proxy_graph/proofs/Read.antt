@@ -1,9 +1,9 @@
 -- What the fields of a local graph say of its share.
-use Rattle.std.proofs.Common.{subst, Ok, ◌≡◌, ℕ, suc, ◌+◌, ◌<◌, ◌≤◌, true, false, Bool, cond, not, ◌&&◌, ◌||◌, ◌==◌, nat_lt, List, [], ◌∷◌, ◌++◌, length, map, drop, slice_get, slice_index, Some, refl, sym, ◌∙◌, ap, arith, length-append, length-drop}
+use Rattle.std.proofs.Common.{subst, Ok, ◌≡◌, ℕ, suc, ◌+◌, ◌<◌, ◌≤◌, true, false, Bool, cond, not, ◌&&◌, ◌||◌, ◌==◌, nat_lt, List, [], ◌∷◌, ◌++◌, length, map, drop, slice_get, slice_index, Some, refl, sym, ◌∙◌, ap, arith, inl, inr, length-append, length-drop}
 use Rattle.std.specs.List.{All, filter, list_any, range_with_len, slice_index_or}
 use Rattle.std.specs.List.Sorted.{IsStrictlyIncreasing, IsBinarySearchResult}
 use Rattle.std.specs.Ordering.{nat_cmp}
-use Rattle.std.proofs.lemmas.Bool.{ne_eqb, lt-ltb}
+use Rattle.std.proofs.lemmas.Bool.{cases_lt, ne_eqb, lt-ltb}
 use Rattle.std.proofs.lemmas.List.Sorted.{searched}
 use Rattle.list_laws.proofs.Places.{All-at}
 use Rattle.list_laws.proofs.Rising.{Rises-from_increasing, in_order}
@@ -28,6 +28,7 @@ use Rattle.proxy_graph.specs.Kept.{Keeps, IsKept, share_of, proxies_of}
 use Rattle.proxy_graph.specs.declared.arcs.Arcs.{Arcs}
 use Rattle.proxy_graph.specs.declared.local_graph.LocalGraph.TheInside.{Inside}
 use Rattle.proxy_graph.proofs.Pairs.{length-pairs}
+use Rattle.proxy_graph.proofs.Starts.{arcs_behind, count_behind}
 
 -- some element passes exactly where what passes is not empty
 any_passes : {X : Type 0} (p : X → Bool) (xs : List X) → nat_lt 0 (length (filter p xs)) ≡ list_any p xs
@@ -145,11 +146,14 @@ found_at ids x place rise answer =
     searched ids x (Ok place) answer (λ i j order within. in_order 0 ids i j rises order within)
 
 -- how many arcs a key has
-length-arcs_at : (keys : ℕ) (arcs : Arcs) (lid : ℕ) → AreRuns keys arcs → lid < keys → length (arcs_at arcs lid) ≡ count_at arcs lid
-length-arcs_at keys arcs lid runs known =
+length-arcs_at : (arcs : Arcs) (lid : ℕ) → AreRuns arcs → length (arcs_at arcs lid) ≡ count_at arcs lid
+length-arcs_at arcs lid runs =
     let rest = drop (start_at arcs lid) (pairs_of arcs) in
     let long = length-pairs arcs.heads.items arcs.weights.items runs.weighed in
-    length-take-le (count_at arcs lid) rest (omega (arith, long, length-drop (start_at arcs lid) (pairs_of arcs), runs.rises lid known, runs.within lid known))
+    elim (cases_lt (lid + 1) (length arcs.starts.items)) [
+      | inl known ↦ length-take-le (count_at arcs lid) rest (omega (arith, long, length-drop (start_at arcs lid) (pairs_of arcs), runs.rises lid known, runs.within lid known))
+      | inr behind ↦ ap length (arcs_behind arcs lid behind) ∙ sym (count_behind arcs lid behind)
+    ]
 
 module _ (share : Share) where
   -- whether a proxy has an arc is told by its starts
@@ -157,7 +161,7 @@ module _ (share : Share) where
   has_arc way arcs lid keeps known =
       let tails : Arc → Bool = λ arc. arc.tail == vertex_at share lid in
       ap (nat_lt 0) (
-      sym (length-arcs_at (length (proxies_here share)) arcs lid keeps.runs known)
+      sym (length-arcs_at arcs lid keeps.runs)
       ∙ ap length (keeps.here lid known)
       ∙ length-map (filter tails (arcs_of way share.edges)) (λ arc. (lid_of share arc.head, arc.weight)))
       ∙ any_passes tails (arcs_of way share.edges)

@@ -108,9 +108,8 @@ impl LocalGraph {
             heads,
             weights,
         } = columns;
-        let proxies = count + mirrors.len() as u32;
-        let back = sorted(alloc, proxies, &heads, &tails, &weights)?;
-        let out = by_tail(alloc, proxies, &tails, heads, weights)?;
+        let back = sorted(alloc, &heads, &tails, &weights)?;
+        let out = by_tail(alloc, &tails, heads, weights)?;
         Ok(LocalGraph {
             host,
             nodes,
@@ -260,7 +259,7 @@ impl LocalGraph {
         requires { tail < length (proxies_here self.now) }
         ensures { result ≡ heads_from Outward self.now tail }
     {
-        self.out.of(self.proxies(), tail)
+        self.out.of(tail)
     }
 
     /// The in-arcs of a proxy.
@@ -268,7 +267,7 @@ impl LocalGraph {
         requires { tail < length (proxies_here self.now) }
         ensures { result ≡ heads_from Inward self.now tail }
     {
-        self.back.of(self.proxies(), tail)
+        self.back.of(tail)
     }
 
     /// No arcs.

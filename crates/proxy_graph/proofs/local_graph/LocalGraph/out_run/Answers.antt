@@ -1,13 +1,11 @@
-use Rattle.std.proofs.Common.{◌∙◌, ℕ, sym, subst}
-use Rattle.proxy_graph.specs.Runs.{AreRuns}
+use Rattle.std.proofs.Common.{◌∙◌}
 use Rattle.proxy_graph.proofs.Read.{kept}
 use Rattle.proxy_graph.proofs.local_graph.LocalGraph.out_run.Goals as goal
 
-pub of-requires-clause-runs : goal.of-requires-clause-runs
-of-requires-clause-runs c =
+pub of-requires : goal.of-requires
+of-requires c =
     let keeps = kept c.self.inside c.args.self.now c.self.view_is c.self.invariant in
-    let P : ℕ → Type 0 = λ keys. AreRuns keys c.self.inside.out in
-    subst P (sym c.proxies.ensures.proxies) keeps.out_arcs.runs
+    keeps.out_arcs.runs
 
 pub returns : goal.returns
 returns c =
