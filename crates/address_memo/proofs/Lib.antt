@@ -5,5 +5,7 @@ pub mod Listing
 pub mod Turns
 pub mod Masters
 pub mod Payloads
+pub mod BothWays
+pub mod Accepting
 pub mod Opening
 pub mod Fitting

@@ -4,5 +4,6 @@ pub mod Payload
 pub mod Legs
 pub mod Runs
 pub mod Checks
+pub mod Told
 pub mod MemoFields
 pub mod Laws

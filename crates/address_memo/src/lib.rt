@@ -29,6 +29,7 @@ mod own_lists;
 mod payload;
 mod proxy_list;
 mod reading;
+mod told_lists;
 
 pub use laws::memos_fit;
 pub use memo::{ListKind, Memo};

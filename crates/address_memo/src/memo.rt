@@ -1,13 +1,15 @@
 //! One host's lists.
 ghost use Rattle.std.specs.Prelude.{◌≡◌, ℕ, ◌+◌, ◌<◌, [], length, replicate, false, IfOk};
 ghost use Rattle.list_laws.specs.Members.{has_member};
-ghost use Rattle.address_memo.specs.Memos.{Memos, AreMemos, none, opened, with_accepted};
+ghost use Rattle.address_memo.specs.Memos.{Memos, AreMemos, opened, with_accepted};
+ghost use Rattle.address_memo.specs.Told.{untold};
 ghost use Rattle.address_memo.specs.Kinds.{list_for};
 
 use crate::leg::Leg;
 use crate::memo_lists::MemoLists;
 use crate::own_lists::own_lists;
 use crate::proxy_list::ProxyList;
+use crate::told_lists::ToldLists;
 use graph_model::Way;
 use proxy_graph::LocalGraph;
 use std::alloc::{AllocError, Global};
@@ -27,15 +29,16 @@ pub enum ListKind {
 }
 
 /// One host's lists, with each other host. Its own lists are there from the start; those that others
-/// tell are empty until they are accepted.
+/// tell are empty until they are accepted. Lists that are equal are kept once.
 #[derive(Drop)]
 pub struct Memo {
     host: u16,
     // each by the number of the peer
     reduce_to: Vec<ProxyList>,
-    spread_from: Vec<ProxyList>,
-    reduce_from: Vec<ProxyList>,
-    spread_to: Vec<ProxyList>,
+    // None where edges are followed both ways: mirrors are then written and read alike, and these lists
+    // are those of `reduce_to`
+    spread_from: Option<Vec<ProxyList>>,
+    told: Vec<ToldLists>,
     // from whom lists are accepted
     accepted: Vec<bool>,
 }
@@ -52,13 +55,13 @@ impl Model for Memo {
     ghost invariant = { AreMemoFields };
 }
 
-/// An empty list for each host.
-fn empty_lists(alloc: Global, hosts: u16) -> Result<Vec<ProxyList>, AllocError>
-    ensures { IfOk result (λ lists. lists.items ≡ replicate hosts none) }
+/// Two empty lists for each host.
+fn empty_lists(alloc: Global, hosts: u16) -> Result<Vec<ToldLists>, AllocError>
+    ensures { IfOk result (λ lists. lists.items ≡ replicate hosts untold) }
 {
     let mut lists = Vec::with_capacity(alloc, hosts as usize)?;
     for _ in 0..hosts {
-        lists.push(ProxyList::empty(alloc))?;
+        lists.push(ToldLists::empty(alloc))?;
     }
     Ok(lists)
 }
@@ -71,16 +74,17 @@ impl Memo {
     {
         let hosts = graph.hosts();
         let reduce_to = own_lists(alloc, graph, way, Leg::Reduce)?;
-        let spread_from = own_lists(alloc, graph, way, Leg::Spread)?;
-        let reduce_from = empty_lists(alloc, hosts)?;
-        let spread_to = empty_lists(alloc, hosts)?;
+        let spread_from = match way {
+            Way::Both => None,
+            Way::Outward | Way::Inward => Some(own_lists(alloc, graph, way, Leg::Spread)?),
+        };
+        let told = empty_lists(alloc, hosts)?;
         let accepted = vec![in alloc; false; hosts as usize]?;
         Ok(Memo {
             host: graph.host(),
             reduce_to,
             spread_from,
-            reduce_from,
-            spread_to,
+            told,
             accepted,
         })
     }
@@ -93,9 +97,12 @@ impl Memo {
     {
         match kind {
             ListKind::ReduceTo => &self.reduce_to[peer as usize],
-            ListKind::ReduceFrom => &self.reduce_from[peer as usize],
-            ListKind::SpreadTo => &self.spread_to[peer as usize],
-            ListKind::SpreadFrom => &self.spread_from[peer as usize],
+            ListKind::ReduceFrom => self.told[peer as usize].reduce(),
+            ListKind::SpreadTo => self.told[peer as usize].spread(),
+            ListKind::SpreadFrom => match &self.spread_from {
+                Some(lists) => &lists[peer as usize],
+                None => &self.reduce_to[peer as usize],
+            },
         }
     }
 
@@ -108,8 +115,7 @@ impl Memo {
     {
         let place = from as usize;
         let MemoLists { reduce, spread } = lists;
-        self.reduce_from[place] = reduce;
-        self.spread_to[place] = spread;
+        self.told[place] = ToldLists::new(reduce, spread);
         self.accepted[place] = true;
     }
 }

@@ -99,6 +99,28 @@ fn a_payload_is_read_where_it_goes(rt: HostRuntime) -> Result<(), Fail> {
 }
 
 #[test]
+fn lists_of_both_legs_are_the_same_both_ways(rt: HostRuntime) -> Result<(), Fail> {
+    let sender = graph_of(rt.alloc(), 0)?;
+    let receiver = graph_of(rt.alloc(), 1)?;
+    let own = Memo::open(rt.alloc(), &sender, Way::Both)?;
+    for kind in [ListKind::ReduceTo, ListKind::SpreadFrom] {
+        let mirrors = own.list(kind, 1);
+        assert_eq!(rt; mirrors.locals(), [1, 2].as_slice(), "of {kind:?}");
+        assert_eq!(rt; mirrors.globals(), [1, 2].as_slice(), "of {kind:?}");
+    }
+
+    let bytes = memo_payload(rt.alloc(), &sender, Way::Both, 1)?;
+    let mut memo = Memo::open(rt.alloc(), &receiver, Way::Both)?;
+    memo.accept(0, read_memo(rt.alloc(), &receiver, &bytes)?);
+    for kind in [ListKind::ReduceFrom, ListKind::SpreadTo] {
+        let told = memo.list(kind, 0);
+        assert_eq!(rt; told.locals(), [0, 1].as_slice(), "of {kind:?}");
+        assert_eq!(rt; told.globals(), [1, 2].as_slice(), "of {kind:?}");
+    }
+    Ok(())
+}
+
+#[test]
 fn each_check_names_its_fault(rt: HostRuntime) -> Result<(), Fail> {
     let receiver = graph_of(rt.alloc(), 1)?;
     let table: [(&[u8], MemoFault); 4] = [

@@ -1,7 +1,7 @@
 use Rattle.std.proofs.Common.{◌≡◌, replicate}
-use Rattle.address_memo.specs.Memos.{none}
+use Rattle.address_memo.specs.Told.{untold}
 use Rattle.address_memo.proofs.memo.empty_lists.Given as goal
 
 -- so many lists are there
 abbrev pub invariant-loop : goal.invariant-loop
-invariant-loop l = l.lists.items ≡ replicate l.counter none
+invariant-loop l = l.lists.items ≡ replicate l.counter untold
