@@ -53,4 +53,12 @@ impl EdgeList {
     {
         self.edges.as_slice()
     }
+
+    /// The edges in file order, the list being given up.
+    pub fn into_edges(self) -> Vec<Edge>
+        ensures edges { result.items ≡ self.edges }
+        ensures facts { IsGraph self }
+    {
+        self.edges
+    }
 }

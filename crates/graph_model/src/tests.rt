@@ -20,6 +20,7 @@ fn a_list_keeps_its_nodes_and_edges(rt: HostRuntime) -> Result<(), Fail> {
     let list = EdgeList::from_parts(2, edges);
     assert_eq!(rt; list.nodes(), 2);
     assert_eq!(rt; list.edges(), [there].as_slice(), "in {list:?}");
+    assert_eq!(rt; list.into_edges().as_slice(), [there].as_slice());
     Ok(())
 }
 

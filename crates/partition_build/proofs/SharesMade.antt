@@ -16,7 +16,7 @@ use Rattle.share_plan.proofs.Partitions.{rises-IsBySource, shares_are_partition}
 use Rattle.partition_build.specs.Rooms.{owned_by, contents, AreRooms, share_by, shares_from, edges_from, shares_by_source}
 
 -- tests that agree on a list pick the same
-filter_agree : {X : Type 0} (p q : X → Bool) (xs : List X) → All (λ x. p x ≡ q x) xs → filter p xs ≡ filter q xs
+pub filter_agree : {X : Type 0} (p q : X → Bool) (xs : List X) → All (λ x. p x ≡ q x) xs → filter p xs ≡ filter q xs
 filter_agree p q [] agree = refl
 filter_agree p q (x ∷ xs) agree =
     ap (λ b. cond b (x ∷ filter p xs) (filter p xs)) (agree 0 x (omega arith))

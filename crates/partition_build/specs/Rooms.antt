@@ -1,5 +1,5 @@
 -- Edges that were handed out, one list a host, and the shares that are made of them.
-use Rattle.std.specs.Prelude.{◌≡◌, ℕ, ◌+◌, ◌<◌, ◌≤◌, ◌==◌, List, [], ◌∷◌, ◌++◌, length, map, All, Vec, slice_index}
+use Rattle.std.specs.Prelude.{◌≡◌, ℕ, ◌+◌, ◌<◌, ◌≤◌, nat_lt, ◌==◌, List, [], ◌∷◌, ◌++◌, length, map, All, Vec, slice_index}
 use Rattle.std.specs.Global.{Global}
 use Rattle.std.specs.List.{filter, slice_index_or, range_with_len}
 use Rattle.graph_model.specs.declared.edge.Edge.{Edge}
@@ -47,6 +47,10 @@ shares_from plan nodes host (room ∷ rooms) = share_by plan nodes host room.ite
 -- the edges of a graph whose source has this master
 abbrev pub edges_from : Plan → Graph → (host : ℕ) → List Edge
 edges_from plan graph host = filter (λ edge. slice_index plan.masters edge.src == host) graph.edges
+
+-- the edges of a graph whose source has a lower master
+abbrev pub edges_below : Plan → Graph → (host : ℕ) → List Edge
+edges_below plan graph host = filter (λ edge. nat_lt (slice_index plan.masters edge.src) host) graph.edges
 
 -- the shares of the first hosts, where each has the edges whose source has it as the master
 abbrev pub shares_by_source : Plan → Graph → (count : ℕ) → List Share

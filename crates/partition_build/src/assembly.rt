@@ -52,6 +52,31 @@ pub(crate) fn assemble_by_source(
     Ok(graphs)
 }
 
+/// The same of a list that is given up from its end: the last host's graph is made first, and the edges of a
+/// host go as soon as its graph is made.
+pub(crate) fn assemble_and_give_up(
+    alloc: Global,
+    list: EdgeList,
+    plan: &SharePlan,
+) -> Result<Vec<LocalGraph>, AllocError>
+    requires nodes { list.nodes ≡ length plan.now.masters }
+    requires starts { plan.now.starts ≡ starts_of list }
+    ensures { IfOk result (λ graphs. graphs.items ≡ shares_by_source plan.now list plan.now.hosts) }
+{
+    let masters = plan.masters();
+    let nodes = list.nodes();
+    let mut edges = list.into_edges();
+    let mut graphs = Vec::with_capacity(alloc, usize::from(masters.hosts()))?;
+    for host in (0..masters.hosts()).rev() {
+        let place = plan.place_from(host);
+        graphs.push(LocalGraph::assemble(alloc, host, masters, nodes, &edges[place..])?)?;
+        edges.truncate(place);
+        edges.shrink_to_fit();
+    }
+    graphs.reverse();
+    Ok(graphs)
+}
+
 /// The local graph of the one host there is, with all edges of the list, which is given up.
 pub(crate) fn assemble_alone(
     alloc: Global,

@@ -11,7 +11,7 @@ ghost use Rattle.share_plan.specs.Owners.{shares_of};
 ghost use Rattle.partition_build.specs.Meant.{shared, AreShared, FindsShares};
 ghost use Rattle.partition_build.specs.Rooms.{AreRooms};
 
-use crate::assembly::{assemble_alone, assemble_by_source, assemble_each};
+use crate::assembly::{assemble_alone, assemble_and_give_up, assemble_by_source, assemble_each};
 use crate::handing::filled_rooms;
 use edge_owner::Rules;
 use gr_reader::{GrFault, GrReader, read_rest};
@@ -43,7 +43,8 @@ pub fn build_list(
     }
 }
 
-/// The same of a list that is given up as soon as its edges are in rooms, or written down for one host.
+/// The same of a list that is given up as soon as its edges are in rooms or, where they lie side by side,
+/// host by host as graphs are made.
 fn build_whole(
     alloc: Global,
     list: EdgeList,
@@ -60,7 +61,7 @@ fn build_whole(
         if hosts == 1 {
             assemble_alone(alloc, list, &plan)
         } else {
-            assemble_by_source(alloc, &list, &plan)
+            assemble_and_give_up(alloc, list, &plan)
         }
     } else {
         let rooms = emptied_into_rooms(alloc, list, &plan)?;

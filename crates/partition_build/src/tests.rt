@@ -3,7 +3,7 @@ use crate::{build, build_list};
 use cusp_rules::MasterRule;
 use edge_owner::{OwnerRule, Rules};
 use gr_reader::{GrReader, read_graph};
-use graph_model::EdgeList;
+use graph_model::{EdgeList, Way};
 use io_edge::PlainSource;
 use proxy_graph::LocalGraph;
 use std::alloc::{AllocError, Global};
@@ -35,6 +35,28 @@ fn read(alloc: Global, longs: &[u64], words: &[u32]) -> Result<EdgeList, AllocEr
     }
 }
 
+/// The graphs of a file.
+fn built(
+    rt: &impl Abort,
+    alloc: Global,
+    longs: &[u64],
+    words: &[u32],
+    rules: Rules,
+    hosts: u16,
+) -> Result<Vec<LocalGraph>, AllocError> {
+    assert!(rt; 1 <= hosts && hosts <= 64);
+    let mut source = file(alloc, longs, words)?;
+    let mut reader = GrReader::new(alloc)?;
+    match reader.read_head(&mut source) {
+        Ok(_) => {}
+        Err(_) => return Err(AllocError),
+    }
+    match build(alloc, &mut reader, &mut source, rules, hosts) {
+        Ok(graphs) => Ok(graphs),
+        Err(_) => Err(AllocError),
+    }
+}
+
 /// The vertices of the mirrors.
 fn mirrors(alloc: Global, graph: &LocalGraph) -> Result<Vec<u32>, AllocError> {
     let mut vertices = Vec::new(alloc);
@@ -56,6 +78,33 @@ fn expect_hosts(
         assert_eq!(rt; graph.edges(), host.0);
         let mirrors = mirrors(alloc, graph)?;
         assert_eq!(rt; mirrors.as_slice(), host.1);
+    }
+    Ok(())
+}
+
+/// The heads of the arcs out of each proxy.
+fn heads(alloc: Global, graph: &LocalGraph) -> Result<Vec<Vec<(u32, u32)>>, AllocError> {
+    let mut heads = Vec::new(alloc);
+    for tail in 0..graph.proxies() {
+        heads.push(graph.arcs(Way::Outward).heads_of(tail).collect(alloc)?)?;
+    }
+    Ok(heads)
+}
+
+/// The graphs are alike, each with the one in its place.
+fn expect_same(
+    rt: &impl Abort,
+    alloc: Global,
+    graphs: &[LocalGraph],
+    wanted: &[LocalGraph],
+) -> Result<(), AllocError> {
+    assert_eq!(rt; graphs.len(), wanted.len());
+    for (graph, want) in graphs.iter().zip(wanted) {
+        assert_eq!(rt; graph.host(), want.host());
+        assert_eq!(rt; graph.masters(), want.masters());
+        assert_eq!(rt; mirrors(alloc, graph)?, mirrors(alloc, want)?);
+        assert_eq!(rt; graph.edges(), want.edges());
+        assert_eq!(rt; heads(alloc, graph)?, heads(alloc, want)?);
     }
     Ok(())
 }
@@ -136,16 +185,24 @@ fn a_file_is_divided_and_one_without_nodes_too(rt: HostRuntime) -> Result<(), Fa
             masters: MasterRule::Edges,
             owner,
         };
-        let mut source = file(alloc, longs, words)?;
-        let mut reader = GrReader::new(alloc)?;
-        match reader.read_head(&mut source) {
-            Ok(_) => {}
-            Err(_) => return Err(Fail::from(AllocError)),
-        }
-        match build(alloc, &mut reader, &mut source, rules, 2) {
-            Ok(graphs) => expect_hosts(&rt, alloc, &graphs, &hosts)?,
-            Err(_) => return Err(Fail::from(AllocError)),
-        }
+        let graphs = built(&rt, alloc, longs, words, rules, 2)?;
+        expect_hosts(&rt, alloc, &graphs, &hosts)?;
+    }
+    Ok(())
+}
+
+#[test]
+fn a_file_is_divided_as_its_list_is(rt: HostRuntime) -> Result<(), Fail> {
+    let alloc = rt.alloc();
+    let list = read(alloc, &LOOP_LONGS, &LOOP_WORDS)?;
+    let rules = Rules {
+        masters: MasterRule::Nodes,
+        owner: OwnerRule::Source,
+    };
+    for hosts in 1..4 {
+        let graphs = built(&rt, alloc, &LOOP_LONGS, &LOOP_WORDS, rules, hosts)?;
+        let wanted = build_list(alloc, &list, rules, hosts)?;
+        expect_same(&rt, alloc, &graphs, &wanted)?;
     }
     Ok(())
 }

@@ -1,5 +1,5 @@
 //! What tells the host of each vertex and of each edge.
-ghost use Rattle.std.specs.Prelude.{◌≡◌, ◌<◌, ◌≤◌, ◌==◌, length, map, slice_index, All, IfOk, IsTrue};
+ghost use Rattle.std.specs.Prelude.{◌≡◌, ◌<◌, ◌≤◌, ◌==◌, nat_lt, length, map, slice_index, count_by, All, IfOk, IsTrue};
 ghost use Rattle.std.specs.List.{filter};
 
 use crate::starts::starts;
@@ -122,5 +122,15 @@ impl SharePlan {
         let from = self.starts[first as usize] as usize;
         let to = self.starts[end as usize] as usize;
         &list.edges()[from..to]
+    }
+
+    /// Where the edges begin whose source has this master, in the list that the plan was made of: before
+    /// them stand the edges whose sources have a lower master.
+    pub fn place_from(&self, host: u16) -> usize
+        requires { host < self.now.hosts }
+        ensures { result ≡ slice_index self.now.starts (count_by (λ master. nat_lt master host) self.now.masters) }
+    {
+        let (first, _) = self.masters.range(host);
+        self.starts[first as usize] as usize
     }
 }

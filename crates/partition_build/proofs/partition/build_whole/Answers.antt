@@ -19,18 +19,18 @@ returns-then-hosts-eq1-clause-partition c =
     let made = c.in_ok-plan.ensures in
     shared-partition c.args.rules c.args.hosts c.args.list c.nodes-nodes.ensures.facts c.in_ok-plan.plan made.plan made.owners _ c.assemble_alone.result c.requires (returns-then-hosts-eq1-clause-shares c)
 
-pub returns-else-hosts-eq1-clause-shares : goal.returns-else-hosts-eq1-clause-shares
-returns-else-hosts-eq1-clause-shares c =
+pub returns-then-sources_own-clause-shares : goal.returns-then-sources_own-clause-shares
+returns-then-sources_own-clause-shares c =
     let plan = c.in_ok-plan.plan in
     let made = c.in_ok-plan.ensures in
-    IfOk-map c.assemble_by_source.result _ _ (λ graphs are. are ∙ shares_of_sources c.args.rules c.args.hosts c.args.list c.nodes-nodes.ensures.facts plan made.plan made.owners
+    IfOk-map c.assemble_and_give_up.result _ _ (λ graphs are. are ∙ shares_of_sources c.args.rules c.args.hosts c.args.list c.nodes-nodes.ensures.facts plan made.plan made.owners
     (λ edge within. c.sources_own.ensures.owners c.if-sources_own.true edge (subst (λ (n : ℕ). IsWithin n edge) (sym made.vertices) within)))
-    c.assemble_by_source.ensures
+    c.assemble_and_give_up.ensures
 
-pub returns-else-hosts-eq1-clause-partition : goal.returns-else-hosts-eq1-clause-partition
-returns-else-hosts-eq1-clause-partition c =
+pub returns-then-sources_own-clause-partition : goal.returns-then-sources_own-clause-partition
+returns-then-sources_own-clause-partition c =
     let made = c.in_ok-plan.ensures in
-    shared-partition c.args.rules c.args.hosts c.args.list c.nodes-nodes.ensures.facts c.in_ok-plan.plan made.plan made.owners _ c.assemble_by_source.result c.requires (returns-else-hosts-eq1-clause-shares c)
+    shared-partition c.args.rules c.args.hosts c.args.list c.nodes-nodes.ensures.facts c.in_ok-plan.plan made.plan made.owners _ c.assemble_and_give_up.result c.requires (returns-then-sources_own-clause-shares c)
 
 pub assemble_each-requires-clause-rooms : goal.assemble_each-requires-clause-rooms
 assemble_each-requires-clause-rooms c =
@@ -38,15 +38,15 @@ assemble_each-requires-clause-rooms c =
     subst (λ (n : ℕ). All (IsRoom n) c.in_ok-rooms.rooms.items) (sym c.nodes-nodes.ensures.nodes)
     (IsRoom-rooms c.in_ok-plan.plan c.args.list.nodes c.args.list.edges c.in_ok-rooms.rooms.items facts.edges_fit facts.within c.in_ok-rooms.ensures)
 
-pub returns-in_ok-rooms-clause-shares : goal.returns-in_ok-rooms-clause-shares
-returns-in_ok-rooms-clause-shares c =
+pub returns-clause-shares : goal.returns-clause-shares
+returns-clause-shares c =
     let plan = c.in_ok-plan.plan in
     let made = c.in_ok-plan.ensures in
     IfOk-map c.assemble_each.result _ _ (λ graphs are. are ∙ ap (λ (n : ℕ). shares_from plan n 0 c.in_ok-rooms.rooms.items) c.nodes-nodes.ensures.nodes
     ∙ shares_of_rooms c.args.rules c.args.hosts c.args.list c.nodes-nodes.ensures.facts plan made.plan made.owners c.in_ok-rooms.rooms.items c.in_ok-rooms.ensures)
     c.assemble_each.ensures
 
-pub returns-in_ok-rooms-clause-partition : goal.returns-in_ok-rooms-clause-partition
-returns-in_ok-rooms-clause-partition c =
+pub returns-clause-partition : goal.returns-clause-partition
+returns-clause-partition c =
     let made = c.in_ok-plan.ensures in
-    shared-partition c.args.rules c.args.hosts c.args.list c.nodes-nodes.ensures.facts c.in_ok-plan.plan made.plan made.owners _ c.assemble_each.result c.requires (returns-in_ok-rooms-clause-shares c)
+    shared-partition c.args.rules c.args.hosts c.args.list c.nodes-nodes.ensures.facts c.in_ok-plan.plan made.plan made.owners _ c.assemble_each.result c.requires (returns-clause-shares c)
