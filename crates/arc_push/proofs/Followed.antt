@@ -25,7 +25,7 @@ back_of P [] ys h = h
 back_of P (x ∷ xs) ys h = back_of P xs ys h.1
 
 -- each arc out of a tail is lent
-heads_are_lent : (way : Way) (share : Share) → IsShare share → (tail : ℕ) → All (IsLent (length (proxies_here share))) (heads_from way share tail)
+pub heads_are_lent : (way : Way) (share : Share) → IsShare share → (tail : ℕ) → All (IsLent (length (proxies_here share))) (heads_from way share tail)
 heads_are_lent way share is tail =
     let chosen : List Arc = filter (λ arc. arc.tail == vertex_at share tail) (arcs_of way share.edges) in
     All-map (IsLent (length (proxies_here share))) (λ (arc : Arc). (lid_of share arc.head, arc.weight)) chosen

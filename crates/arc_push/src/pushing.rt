@@ -8,7 +8,7 @@ ghost use Rattle.host_state.specs.Gained.{Gains};
 ghost use Rattle.arc_push.specs.Pushing.{IsLent, has_news, brought_by, Begins, Brings};
 
 use graph_model::Way;
-use proxy_graph::{LocalGraph, Run};
+use proxy_graph::{Heads, LocalGraph, Run};
 use reduce_laws::{Reduction, VertexProgram};
 use update_bits::UpdateBits;
 
@@ -80,9 +80,14 @@ fn push_along<P: VertexProgram>(
     ensures are_items { All P.Red.Item.IsValue items.new }
 {
     let masters = graph.masters();
-    let (run, next_run) = graph.arcs(way).runs_of(tail);
-    push_run(program, masters, y, run, items, news);
-    push_run(program, masters, y, next_run, items, news);
+    let arcs = graph.arcs(way);
+    match arcs.runs_of(tail) {
+        Some((run, next_run)) => {
+            push_run(program, masters, y, run, items, news);
+            push_run(program, masters, y, next_run, items, news);
+        }
+        None => push_heads(program, masters, y, arcs.heads_of(tail), items, news),
+    }
 }
 
 /// Combines the items along the arcs of one run, whose tail shows `y`, into the items of their heads, which
@@ -111,6 +116,35 @@ fn push_run<P: VertexProgram>(
 {
     for (head, weight) in run {
         combine_into::<P::Red>(masters, head, program.along(y, weight), items, news);
+    }
+}
+
+/// The same where arcs do not lie side by side.
+fn push_heads<P: VertexProgram>(
+    program: &P,
+    masters: u32,
+    y: P::Shown,
+    heads: Heads<'_>,
+    items: &mut [<P::Red as Reduction>::Item],
+    news: &mut UpdateBits,
+)
+    requires is_shown { P.Shown.IsValue y }
+    requires are_lent { All (IsLent (length items.old)) heads }
+    requires news_fit { length news.old ≡ length items.old }
+    requires items_are { All P.Red.Item.IsValue items.old }
+    ensures brings { (start : List P.Red.Item) (first : List Bool) (before : P.Shown → ℕ → P.Red.Item)
+        → Begins P.Red.Item.IsValue P.Red.reducer masters (length items.old) start first
+        → Brings P.Red.Item.IsValue P.Red.reducer masters (length items.old) before start first items.old news.old
+        → Brings P.Red.Item.IsValue P.Red.reducer masters (length items.old)
+        (λ none l. P.Red.reducer.combine (before none l) (brought_by P.Red.reducer (P.steps program.now) y heads.entry l))
+        start first items.new news.new }
+    ensures items_fit { length items.new ≡ length items.old }
+    ensures news_fit { length news.new ≡ length news.old }
+    ensures are_items { All P.Red.Item.IsValue items.new }
+{
+    for (head, weight) in heads {
+        let item = program.along(y, weight);
+        combine_into::<P::Red>(masters, head, item, items, news);
     }
 }
 

@@ -60,7 +60,7 @@ pub(crate) fn prepare<S: Source, P: Picker>(
         Task::Run { program, run } => {
             picker.start(run.order);
             let root = root_of(program);
-            let graphs = load_shares(alloc, root, run.hosts, run.rules, source)?;
+            let graphs = load_shares(alloc, root, run.hosts, run.rules, run.way, source)?;
             Ok(Prepared::Run(program, run, graphs))
         }
         Task::Make { size, number } => Ok(Prepared::Told(Answers::Made(make(

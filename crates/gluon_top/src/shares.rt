@@ -10,19 +10,21 @@ ghost use Rattle.partition_build.specs.Meant.{AreShared};
 
 use edge_owner::Rules;
 use gr_reader::GrReader;
+use graph_model::Way;
 use io_edge::Source;
 use job_text::Fault;
-use partition_build::build;
+use partition_build::build_for;
 use proxy_graph::LocalGraph;
 use std::alloc::Global;
 
 /// The graph that the source gives, divided among hosts; or the first fault, which may be that a root, where
-/// there is one, is no node.
+/// there is one, is no node. Arcs are laid for the way of the run.
 pub(crate) fn load_shares<S: Source>(
     alloc: Global,
     root: Option<u32>,
     hosts: u16,
     rules: Rules,
+    way: Way,
     source: &mut S,
 ) -> Result<Vec<LocalGraph>, Fault>
     requires { IsHostCount hosts }
@@ -38,7 +40,7 @@ pub(crate) fn load_shares<S: Source>(
     let mut reader = GrReader::new(alloc)?;
     let head = reader.read_head(source)?;
     demand_node(root, head.nodes)?;
-    Ok(build(alloc, &mut reader, source, rules, hosts)?)
+    Ok(build_for(alloc, &mut reader, source, rules, hosts, way)?)
 }
 
 /// Refuses a root that is no node of so many.

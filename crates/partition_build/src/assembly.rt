@@ -1,10 +1,10 @@
-//! Local graphs are made of the edges of each host.
+//! Local graphs are made of the edges of each host, with arcs laid for one way.
 ghost use Rattle.std.specs.Prelude.{◌≡◌, ◌≤◌, length, All, IfOk, vec_len};
 ghost use Rattle.graph_model.specs.Graph.{most_nodes};
 ghost use Rattle.share_plan.specs.Starts.{starts_of};
 ghost use Rattle.partition_build.specs.Rooms.{IsRoom, shares_from, shares_by_source};
 
-use graph_model::{Edge, EdgeList};
+use graph_model::{Edge, EdgeList, Way};
 use proxy_graph::LocalGraph;
 use share_plan::SharePlan;
 use std::alloc::{AllocError, Global};
@@ -12,6 +12,7 @@ use std::alloc::{AllocError, Global};
 /// The local graph of each host, of the edges in its room. A room is given up as soon as its graph is made.
 pub(crate) fn assemble_each(
     alloc: Global,
+    way: Way,
     nodes: u32,
     plan: &SharePlan,
     rooms: Vec<Vec<Edge>>,
@@ -26,7 +27,7 @@ pub(crate) fn assemble_each(
     let mut graphs = Vec::with_capacity(alloc, rooms.len())?;
     for edges in rooms {
         let host = graphs.len() as u16;
-        graphs.push(LocalGraph::assemble(alloc, host, plan.masters(), nodes, &edges)?)?;
+        graphs.push(LocalGraph::assemble_for(alloc, way, host, plan.masters(), nodes, &edges)?)?;
     }
     Ok(graphs)
 }
@@ -35,6 +36,7 @@ pub(crate) fn assemble_each(
 /// side in the list, and are not copied.
 pub(crate) fn assemble_by_source(
     alloc: Global,
+    way: Way,
     list: &EdgeList,
     plan: &SharePlan,
 ) -> Result<Vec<LocalGraph>, AllocError>
@@ -47,7 +49,7 @@ pub(crate) fn assemble_by_source(
     let mut graphs = Vec::with_capacity(alloc, usize::from(masters.hosts()))?;
     for host in 0..masters.hosts() {
         let edges = plan.edges_from(list, host);
-        graphs.push(LocalGraph::assemble(alloc, host, masters, nodes, edges)?)?;
+        graphs.push(LocalGraph::assemble_for(alloc, way, host, masters, nodes, edges)?)?;
     }
     Ok(graphs)
 }
@@ -56,6 +58,7 @@ pub(crate) fn assemble_by_source(
 /// host go as soon as its graph is made.
 pub(crate) fn assemble_and_give_up(
     alloc: Global,
+    way: Way,
     list: EdgeList,
     plan: &SharePlan,
 ) -> Result<Vec<LocalGraph>, AllocError>
@@ -69,7 +72,7 @@ pub(crate) fn assemble_and_give_up(
     let mut graphs = Vec::with_capacity(alloc, usize::from(masters.hosts()))?;
     for host in (0..masters.hosts()).rev() {
         let place = plan.place_from(host);
-        graphs.push(LocalGraph::assemble(alloc, host, masters, nodes, &edges[place..])?)?;
+        graphs.push(LocalGraph::assemble_for(alloc, way, host, masters, nodes, &edges[place..])?)?;
         edges.truncate(place);
         edges.shrink_to_fit();
     }
@@ -80,6 +83,7 @@ pub(crate) fn assemble_and_give_up(
 /// The local graph of the one host there is, with all edges of the list, which is given up.
 pub(crate) fn assemble_alone(
     alloc: Global,
+    way: Way,
     list: EdgeList,
     plan: &SharePlan,
 ) -> Result<Vec<LocalGraph>, AllocError>
@@ -87,7 +91,7 @@ pub(crate) fn assemble_alone(
     requires alone { plan.now.hosts ≡ 1 }
     ensures { IfOk result (λ graphs. graphs.items ≡ shares_by_source plan.now list plan.now.hosts) }
 {
-    let graph = LocalGraph::assemble_list(alloc, 0, plan.masters(), list)?;
+    let graph = LocalGraph::assemble_list(alloc, way, 0, plan.masters(), list)?;
     let mut graphs = Vec::with_capacity(alloc, usize::from(graph.hosts()))?;
     graphs.push(graph)?;
     Ok(graphs)

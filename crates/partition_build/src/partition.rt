@@ -15,14 +15,14 @@ use crate::assembly::{assemble_alone, assemble_and_give_up, assemble_by_source, 
 use crate::handing::filled_rooms;
 use edge_owner::Rules;
 use gr_reader::{GrFault, GrReader, read_rest};
-use graph_model::{Edge, EdgeList};
+use graph_model::{Edge, EdgeList, Way};
 use io_edge::Source;
 use proxy_graph::LocalGraph;
 use share_plan::SharePlan;
 use std::alloc::{AllocError, Global};
 
 /// The local graph of each host, by rising number, for 1 to 64 hosts: each edge stands on its owner alone,
-/// in file order.
+/// in file order. Arcs are laid for each way.
 pub fn build_list(
     alloc: Global,
     list: &EdgeList,
@@ -36,17 +36,18 @@ pub fn build_list(
     let nodes = list.nodes();
     let plan = SharePlan::new(alloc, rules, hosts, list)?;
     if plan.sources_own() {
-        assemble_by_source(alloc, list, &plan)
+        assemble_by_source(alloc, Way::Both, list, &plan)
     } else {
         let rooms = filled_rooms(alloc, list.edges(), &plan)?;
-        assemble_each(alloc, nodes, &plan, rooms)
+        assemble_each(alloc, Way::Both, nodes, &plan, rooms)
     }
 }
 
 /// The same of a list that is given up as soon as its edges are in rooms or, where they lie side by side,
-/// host by host as graphs are made.
+/// host by host as graphs are made. Arcs are laid for this way.
 fn build_whole(
     alloc: Global,
+    way: Way,
     list: EdgeList,
     rules: Rules,
     hosts: u16,
@@ -59,13 +60,13 @@ fn build_whole(
     let plan = SharePlan::new(alloc, rules, hosts, &list)?;
     if plan.sources_own() {
         if hosts == 1 {
-            assemble_alone(alloc, list, &plan)
+            assemble_alone(alloc, way, list, &plan)
         } else {
-            assemble_and_give_up(alloc, list, &plan)
+            assemble_and_give_up(alloc, way, list, &plan)
         }
     } else {
         let rooms = emptied_into_rooms(alloc, list, &plan)?;
-        assemble_each(alloc, nodes, &plan, rooms)
+        assemble_each(alloc, way, nodes, &plan, rooms)
     }
 }
 
@@ -82,7 +83,7 @@ fn emptied_into_rooms(
 }
 
 /// Reads all that follows the head, and makes the local graph of each host, by rising number, for 1 to 64
-/// hosts. The reader has read the head.
+/// hosts. The reader has read the head. Arcs are laid for each way.
 pub fn build<S: Source>(
     alloc: Global,
     reader: &mut GrReader,
@@ -115,7 +116,45 @@ pub fn build<S: Source>(
     ensures taken { TakesAtMost (reach reader.old.head result) (S.left source.old) (S.left source.new) }
     ensures counts { Counts result (S.faults source.old) (S.faults source.new) }
 {
+    build_for(alloc, reader, source, rules, hosts, Way::Both)
+}
+
+/// The same, where arcs are laid for one way: a run that follows edges in this way finds the arcs of a proxy
+/// side by side, and memory is taken for no others.
+pub fn build_for<S: Source>(
+    alloc: Global,
+    reader: &mut GrReader,
+    source: &mut S,
+    rules: Rules,
+    hosts: u16,
+    way: Way,
+) -> Result<Vec<LocalGraph>, GrFault>
+    requires stage { reader.old.stage ≡ stages.Index }
+    requires hosts { IsHostCount hosts }
+    // The graphs are those of the graph that the bytes have, or the fault is their first, unless a read
+    // failed or memory ran out.
+    ensures means { IfSome (S.left source.old) (λ bytes.
+        Means (λ graphs. graphs.items) result (S.left source.new)
+        (shared rules hosts (rest_at reader.old.head bytes))) }
+    // The same, told by that graph.
+    ensures finds { IfSome (S.left source.old) (λ bytes.
+        FindsShares rules hosts (λ graphs. graphs.items) result (S.left source.new)
+        (rest_at reader.old.head bytes)) }
+    // Also where the source does not tell its bytes the graphs are those of one graph, of as many nodes as
+    // the head says.
+    ensures shared { IfOk result (λ graphs. AreShared rules hosts reader.old.head.nodes graphs.items) }
+    ensures partition { IfOk result (λ graphs. IsPartition graphs.items) }
+    ensures faults { IfErr result IsOfRest }
+    ensures head { reader.new.head ≡ reader.old.head }
+    ensures ok { OnOk result (reader.new.stage ≡ stages.Done) }
+    // Where memory runs out after the last field, the reader has read all.
+    ensures failed { IfErr result (λ fault. (reader.new.stage ≡ stages.Failed)
+        ⊎ ((fault ≡ GrFault.Memory) × (reader.new.stage ≡ stages.Done))) }
+    // A fault of a section leaves what follows the section.
+    ensures taken { TakesAtMost (reach reader.old.head result) (S.left source.old) (S.left source.new) }
+    ensures counts { Counts result (S.faults source.old) (S.faults source.new) }
+{
     let list = read_rest(alloc, reader, source)?;
     let _facts = list.nodes();
-    Ok(build_whole(alloc, list, rules, hosts)?)
+    Ok(build_whole(alloc, way, list, rules, hosts)?)
 }

@@ -23,12 +23,16 @@ use Rattle.proxy_graph.specs.Heads.{lid_of, vertex_at}
 use Rattle.proxy_graph.specs.Keyed.{with_key}
 use Rattle.proxy_graph.specs.Runs.{KeepsArcs, arcs_at}
 use Rattle.proxy_graph.specs.Sides.{Side, Out, Back, AreSorted, arc_of, arc_pair, key_of, end_of}
+use Rattle.proxy_graph.specs.Sorting.{AreInArcsOf}
 use Rattle.proxy_graph.specs.Numbering.{is_hosted, is_end, is_mirrored, AreMarks, AreNumbered, IsLidOf}
-use Rattle.proxy_graph.specs.Kept.{edge_from, edges_of, share_of, proxies_of, Keeps, IsKept}
+use Rattle.proxy_graph.specs.Kept.{edge_from, edges_of, share_of, proxies_of, AreLids, KeepsInArcs, Keeps, IsKept}
 use Rattle.proxy_graph.specs.declared.local_graph.LocalGraph.TheInside.{Inside}
 use Rattle.proxy_graph.specs.declared.arcs.Arcs.{Arcs}
+use Rattle.proxy_graph.specs.declared.in_arcs.InArcs.{InArcs}
+use Rattle.proxy_graph.specs.declared.in_arcs.InArcs.TheVariants.{Laid, Unlaid}
 use Rattle.proxy_graph.proofs.Keyed.{picked_pass}
 use Rattle.proxy_graph.proofs.NumberingSteps.{hosted_is}
+use Rattle.proxy_graph.proofs.Rows.{columns_sorted}
 use Rattle.proxy_graph.proofs.Ranges.{picked_same, picked_none, picked_all, range_parts}
 use Rattle.proxy_graph.proofs.Starts.{arcs_behind}
 use Rattle.proxy_graph.proofs.Lids.{hosted_true, hosted_before, hosted_behind, lid_is_place, place_is, place_none, lid_among}
@@ -209,6 +213,13 @@ module _ (share : Share) (table : List ℕ) (only : OnlyPlaces share) where
     here = λ lid known. sorted.here lid ∙ arcs_are Back lid known share.edges named;
   }
 
+  -- a proxy is among the heads of arcs where its vertex is the destination of an edge
+  pub heads_tell : (lid : ℕ) → lid < length (proxies_here share) → (edges : List Edge) → All (IsNamed share table) edges → is_among (map (end_of Out table) edges) lid ≡ list_any (λ arc. arc.head == vertex_at share lid) (map out_arc edges)
+  heads_tell lid known [] named = refl
+  heads_tell lid known (edge ∷ edges) named =
+      ap (λ b. b || is_among (map (end_of Out table) edges) lid) (same_test Back edge lid (All-head (IsNamed share table) edge edges named) known)
+      ∙ ap (λ b. (edge.dst == vertex_at share lid) || b) (heads_tell lid known edges (All-tail (IsNamed share table) edge edges named))
+
 -- ---- the edges that the arcs stand for
 
 module _ (share : Share) (arcs : Arcs) (only : OnlyPlaces share) (keeps : KeepsArcs Outward share arcs) where
@@ -296,7 +307,19 @@ module _ {share : Share} {first count : ℕ} {marks : List Bool} {table mirrors 
       let is = tail_lid share table only_places side (slice_index_or share.edges k d) (names k d below) in
       omega (arith, is.within, proxies_long))
 
--- the fields are those of the share, and the arcs of its edges stand in them by tail and by head
+-- in-arcs stand by head, or the numbers of their heads are a set
+abbrev pub AreInArcs : (keys : ℕ) (table : List ℕ) → List Edge → InArcs → Type 0
+AreInArcs keys table edges (Laid arcs) = AreSorted Back keys table edges arcs
+AreInArcs keys table edges (Unlaid heads) = (length heads ≡ keys) × ((lid : ℕ) → has_member heads lid ≡ is_among (map (end_of Out table) edges) lid)
+
+-- so they are where the columns tell of the edges
+pub in_arcs_are : (keys : ℕ) (table : List ℕ) (edges : List Edge) (back : InArcs) (heads tails weights : List ℕ)
+    → All (λ key. key < keys) (map (key_of Back table) edges) → heads ≡ map (key_of Back table) edges → tails ≡ map (end_of Back table) edges → weights ≡ map (λ (edge : Edge). edge.weight) edges
+    → AreInArcsOf keys heads tails weights back → AreInArcs keys table edges back
+in_arcs_are keys table edges (Laid arcs) heads tails weights known headed tailed weighed by_head = columns_sorted Back keys table edges arcs heads tails weights known headed tailed weighed by_head
+in_arcs_are keys table edges (Unlaid set) heads tails weights known headed tailed weighed are = (are.0, λ lid. are.1 lid ∙ ap (λ column. is_among column lid) headed)
+
+-- the fields are those of the share, and the arcs of its edges stand in them
 pub record AreFields (share : Share) (first count : ℕ) (table mirrors : List ℕ) (graph : Inside) : Type 0 where
   pub is_share : IsShare share
   pub host : graph.host ≡ share.host
@@ -307,15 +330,26 @@ pub record AreFields (share : Share) (first count : ℕ) (table mirrors : List �
   pub hosted : graph.count ≡ count
   pub mirrored : graph.mirrors.items ≡ mirrors
   pub out : AreSorted Out (count + length mirrors) table share.edges graph.out
-  pub back : AreSorted Back (count + length mirrors) table share.edges graph.back
+  pub back : AreInArcs (count + length mirrors) table share.edges graph.back
 
 module _ {share : Share} {first count : ℕ} {marks : List Bool} {table mirrors : List ℕ} {graph : Inside}
     (are : AreProxies share first count marks table mirrors) (fields : AreFields share first count table mirrors graph) where
   out_kept : KeepsArcs Outward share graph.out
   out_kept = keeps_out share table (only_places are) graph.out (names are) (subst (λ (keys : ℕ). AreSorted Out keys table share.edges graph.out) (sym (proxies_long are)) fields.out)
 
-  back_kept : KeepsArcs Inward share graph.back
-  back_kept = keeps_back share table (only_places are) graph.back (names are) (subst (λ (keys : ℕ). AreSorted Back keys table share.edges graph.back) (sym (proxies_long are)) fields.back)
+  in_arcs_kept : (back : InArcs) → AreInArcs (count + length mirrors) table share.edges back → KeepsInArcs share back
+  in_arcs_kept (Laid arcs) sorted = keeps_back share table (only_places are) arcs (names are) (subst (λ (keys : ℕ). AreSorted Back keys table share.edges arcs) (sym (proxies_long are)) sorted)
+  in_arcs_kept (Unlaid heads) are_heads = record {
+    long = are_heads.0 ∙ sym (proxies_long are);
+    heads_are = λ lid known. are_heads.1 lid ∙ heads_tell share table (only_places are) lid known share.edges (names are);
+  }
+
+  lids_kept : AreLids share
+  lids_kept = record {
+    only = only_places are;
+    sources = All-weaker (IsNamed share table) (λ edge. is_among (proxies_here share) edge.src ≡ true) (λ edge named. lid_among (proxies_here share) edge.src (slice_index table edge.src) named.source) share.edges (names are);
+    destinations = All-weaker (IsNamed share table) (λ edge. is_among (proxies_here share) edge.dst ≡ true) (λ edge named. lid_among (proxies_here share) edge.dst (slice_index table edge.dst) named.destination) share.edges (names are);
+  }
 
   -- the fields keep the share
   built : Keeps share graph
@@ -328,7 +362,8 @@ module _ {share : Share} {first count : ℕ} {marks : List Bool} {table mirrors 
     masters_are = masters_are are ∙ ap (λ (k : ℕ). range_with_len k count) (sym fields.begins) ∙ ap (λ (n : ℕ). range_with_len graph.first n) (sym fields.hosted);
     mirrors_are = mirrors_are are ∙ sym fields.mirrored;
     out_arcs = out_kept;
-    in_arcs = back_kept;
+    in_arcs = in_arcs_kept graph.back fields.back;
+    lids = lids_kept;
   }
 
   -- and stand for it
@@ -338,9 +373,7 @@ module _ {share : Share} {first count : ℕ} {marks : List Bool} {table mirrors 
       let edges : edges_of graph.nodes (proxies_of graph) graph.out ≡ share.edges
       = ap (λ (n : ℕ). edges_of n (proxies_of graph) graph.out) fields.nodes
       ∙ ap (λ ps. edges_of (nodes_of share) ps graph.out) proxies
-      ∙ edges_are share graph.out (only_places are) out_kept
-      (All-weaker (IsNamed share table) (λ edge. is_among (proxies_here share) edge.src ≡ true) (λ edge named. lid_among (proxies_here share) edge.src (slice_index table edge.src) named.source) share.edges (names are))
-      (All-weaker (IsNamed share table) (λ edge. is_among (proxies_here share) edge.dst ≡ true) (λ edge named. lid_among (proxies_here share) edge.dst (slice_index table edge.dst) named.destination) share.edges (names are))
+      ∙ edges_are share graph.out (only_places are) out_kept lids_kept.sources lids_kept.destinations
       fields.is_share.within fields.is_share.by_source in
       ap (λ (h : ℕ). share_with h graph.masters.hosts graph.masters.masters (share_of graph).edges) fields.host
       ∙ ap (λ (n : ℕ). share_with share.host n graph.masters.masters (share_of graph).edges) fields.hosts

@@ -8,7 +8,9 @@ pub mod SortingSteps
 pub mod Ranges
 pub mod NumberingSteps
 pub mod Lids
+pub mod SearchLaws
 pub mod Rows
 pub mod Assembled
 pub mod SurveySteps
+pub mod HeadSets
 pub mod InFileOrder

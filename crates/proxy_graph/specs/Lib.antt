@@ -1,4 +1,5 @@
 pub mod Heads
+pub mod Search
 pub mod Runs
 pub mod Kept
 pub mod Keyed

@@ -1,11 +1,13 @@
 //! The arcs of a local graph, followed in a way.
-ghost use Rattle.std.specs.Prelude.{◌≡◌, ◌<◌, ◌++◌, length};
+ghost use Rattle.std.specs.Prelude.{◌≡◌, ◌<◌, ◌++◌, length, IfSome};
+ghost use Rattle.graph_model.specs.declared.edge.Way.TheVariants.{Inward};
 ghost use Rattle.graph_division.specs.Shares.{proxies_here};
 ghost use Rattle.proxy_graph.specs.Heads.{Lent, heads_from};
 
 use crate::heads::Heads;
 use crate::local_graph::LocalGraph;
 use crate::run::Run;
+use crate::search::Search;
 use graph_model::Way;
 use std::marker::Model;
 
@@ -36,21 +38,37 @@ impl<'a> ArcView<'a> {
         requires { tail < length (proxies_here self.now.share) }
         ensures { result ≡ heads_from self.now.way self.now.share tail }
     {
-        let (run, next_run) = self.runs_of(tail);
-        Heads::new(run, next_run)
+        let graph = self.graph;
+        match self.way {
+            Way::Outward => Heads::of_runs(graph.out_run(tail), graph.no_run()),
+            Way::Inward => with_in_arcs(graph.no_run(), graph, tail),
+            Way::Both => with_in_arcs(graph.out_run(tail), graph, tail),
+        }
     }
 
     /// The same arcs in two parts, each of which lies side by side: those of out-edges and those of
-    /// in-edges, where the way takes both. Where it takes one, the second part is empty.
-    pub fn runs_of(&self, tail: u32) -> (Run<'a>, Run<'a>)
+    /// in-edges, where the way takes both. Where it takes one, the second part is empty. There is None
+    /// where arcs that the way takes are not laid.
+    pub fn runs_of(&self, tail: u32) -> Option<(Run<'a>, Run<'a>)>
         requires { tail < length (proxies_here self.now.share) }
-        ensures { result.0 ++ result.1 ≡ heads_from self.now.way self.now.share tail }
+        ensures { IfSome result (λ runs. runs.0 ++ runs.1 ≡ heads_from self.now.way self.now.share tail) }
     {
         let graph = self.graph;
         match self.way {
-            Way::Outward => (graph.out_run(tail), graph.no_run()),
-            Way::Inward => (graph.in_run(tail), graph.no_run()),
-            Way::Both => (graph.out_run(tail), graph.in_run(tail)),
+            Way::Outward => Some((graph.out_run(tail), graph.no_run())),
+            Way::Inward => Some((graph.in_run(tail)?, graph.no_run())),
+            Way::Both => Some((graph.out_run(tail), graph.in_run(tail)?)),
         }
+    }
+}
+
+/// The arcs of a run, and then the in-arcs of a proxy.
+fn with_in_arcs<'a>(run: Run<'a>, graph: &'a LocalGraph, tail: u32) -> Heads<'a>
+    requires { tail < length (proxies_here graph.now) }
+    ensures { result ≡ run.entry ++ heads_from Inward graph.now tail }
+{
+    match graph.in_run(tail) {
+        Some(in_run) => Heads::of_runs(run, in_run),
+        None => Heads::of_search(run, graph.no_run(), Search::new(graph, tail)),
     }
 }

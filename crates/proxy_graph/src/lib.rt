@@ -8,9 +8,11 @@ mod columns;
 mod draft;
 mod file_order;
 mod heads;
+mod in_arcs;
 mod local_graph;
 mod numbering;
 mod run;
+mod search;
 mod sorting;
 mod survey;
 

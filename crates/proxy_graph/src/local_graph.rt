@@ -1,5 +1,5 @@
 //! One host's local graph.
-ghost use Rattle.std.specs.Prelude.{◌≡◌, ℕ, ◌+◌, ◌<◌, ◌≤◌, false, [], length, slice_get, slice_index, All, IfOk, MatchOption, Some};
+ghost use Rattle.std.specs.Prelude.{◌≡◌, ℕ, ◌+◌, ◌<◌, ◌≤◌, false, [], length, slice_get, slice_index, All, IfOk, IfSome, MatchOption, Some};
 ghost use Rattle.std.specs.List.{slice_index_or};
 ghost use Rattle.list_laws.specs.Among.{is_among};
 ghost use Rattle.graph_model.specs.Graph.{most_nodes, most_edges, IsWithin};
@@ -8,13 +8,15 @@ ghost use Rattle.graph_division.specs.Lists.{is_readable, is_writable};
 ghost use Rattle.graph_division.specs.Shares.{Share, IsShare, nodes_of, in_file_order, seen, masters_here, proxies_here};
 ghost use Rattle.proxy_graph.specs.Heads.{vertex_at, heads_from};
 ghost use Rattle.proxy_graph.specs.Drafts.{IsDraft, IsDraftOf};
+ghost use Rattle.proxy_graph.specs.Search.{TellsInArcs};
 
 use crate::arc_view::ArcView;
 use crate::arcs::Arcs;
 use crate::columns::Columns;
 use crate::draft::Draft;
+use crate::in_arcs::InArcs;
 use crate::run::Run;
-use crate::sorting::{by_tail, sorted};
+use crate::sorting::by_tail;
 use cusp_rules::Masters;
 use graph_model::{Edge, EdgeList, Way};
 use std::alloc::{AllocError, Global};
@@ -35,7 +37,7 @@ pub struct LocalGraph {
     mirrors: Vec<u32>,
     /// The arcs out of each proxy, and those into it.
     out: Arcs,
-    back: Arcs,
+    back: InArcs,
 }
 
 impl Model for LocalGraph {
@@ -53,7 +55,8 @@ impl Model for LocalGraph {
 impl LocalGraph {
     /// The local graph of a host, which is below the number of hosts, with these edges, whose ends are
     /// below `nodes`, the number of vertices that have masters. There are at most 16,777,216 vertices and
-    /// at most 67,108,864 edges. Edges are kept by source; those of one source stay in their order.
+    /// at most 67,108,864 edges. Edges are kept by source; those of one source stay in their order. Arcs are
+    /// laid for each way.
     pub fn assemble(
         alloc: Global,
         host: u16,
@@ -68,15 +71,36 @@ impl LocalGraph {
         requires within { All (IsWithin nodes) edges.now }
         ensures { IfOk result (λ graph. graph ≡ record { host = host; hosts = masters.now.hosts; masters = masters.now.masters; edges = in_file_order nodes edges.now }) }
     {
+        LocalGraph::assemble_for(alloc, Way::Both, host, masters, nodes, edges)
+    }
+
+    /// The same, where arcs are laid for one way: a run that follows edges in this way finds the arcs of a
+    /// proxy side by side, and memory is taken for no others. Arcs that are not laid are found by search.
+    pub fn assemble_for(
+        alloc: Global,
+        way: Way,
+        host: u16,
+        masters: &Masters,
+        nodes: u32,
+        edges: &[Edge],
+    ) -> Result<LocalGraph, AllocError>
+        requires host { host < masters.now.hosts }
+        requires nodes { nodes ≡ length masters.now.masters }
+        requires few_nodes { nodes ≤ most_nodes }
+        requires few_edges { length edges.now ≤ most_edges }
+        requires within { All (IsWithin nodes) edges.now }
+        ensures { IfOk result (λ graph. graph ≡ record { host = host; hosts = masters.now.hosts; masters = masters.now.masters; edges = in_file_order nodes edges.now }) }
+    {
         let draft = Draft::new(alloc, host, masters, nodes, edges)?;
-        LocalGraph::of_draft(alloc, draft)
+        LocalGraph::of_draft(alloc, way, draft)
     }
 
     /// The local graph of a host, which is below the number of hosts, with all edges of this list, whose
-    /// nodes are the vertices that have masters. The list is given up as soon as its edges are written down
-    /// by column, before they are laid by their ends.
+    /// nodes are the vertices that have masters, laid for this way. The list is given up as soon as its edges
+    /// are written down by column, before they are laid by their ends.
     pub fn assemble_list(
         alloc: Global,
+        way: Way,
         host: u16,
         masters: &Masters,
         list: EdgeList,
@@ -86,11 +110,11 @@ impl LocalGraph {
         ensures { IfOk result (λ graph. graph ≡ record { host = host; hosts = masters.now.hosts; masters = masters.now.masters; edges = list.edges }) }
     {
         let draft = Draft::of_list(alloc, host, masters, list)?;
-        LocalGraph::of_draft(alloc, draft)
+        LocalGraph::of_draft(alloc, way, draft)
     }
 
-    /// The local graph that this is a draft of.
-    fn of_draft(alloc: Global, draft: Draft) -> Result<LocalGraph, AllocError>
+    /// The local graph that this is a draft of, whose arcs are laid for this way.
+    fn of_draft(alloc: Global, way: Way, draft: Draft) -> Result<LocalGraph, AllocError>
         requires { IsDraft draft }
         ensures { (share : Share) → IsDraftOf share draft → IfOk result (λ graph. graph ≡ share) }
     {
@@ -108,7 +132,8 @@ impl LocalGraph {
             heads,
             weights,
         } = columns;
-        let back = sorted(alloc, &heads, &tails, &weights)?;
+        let proxies = count + mirrors.len() as u32;
+        let back = InArcs::new(alloc, way, proxies, &heads, &tails, &weights)?;
         let out = by_tail(alloc, &tails, heads, weights)?;
         Ok(LocalGraph {
             host,
@@ -204,7 +229,10 @@ impl LocalGraph {
         requires { lid < length (proxies_here self.now) }
         ensures { result ≡ is_writable (seen Outward self.now) self.now.host (vertex_at self.now lid) }
     {
-        self.back.has(lid)
+        match &self.back {
+            InArcs::Laid(arcs) => arcs.has(lid),
+            InArcs::Unlaid(heads) => heads.test(lid),
+        }
     }
 
     /// The local number of the vertex `gid`, and None exactly where it has no proxy on this host.
@@ -262,12 +290,24 @@ impl LocalGraph {
         self.out.of(tail)
     }
 
-    /// The in-arcs of a proxy.
-    pub(crate) fn in_run<'a>(&'a self, tail: u32) -> Run<'a>
+    /// The in-arcs of a proxy, where they are laid.
+    pub(crate) fn in_run<'a>(&'a self, tail: u32) -> Option<Run<'a>>
         requires { tail < length (proxies_here self.now) }
-        ensures { result ≡ heads_from Inward self.now tail }
+        ensures { IfSome result (λ run. run ≡ heads_from Inward self.now tail) }
     {
-        self.back.of(tail)
+        match &self.back {
+            InArcs::Laid(arcs) => Some(arcs.of(tail)),
+            InArcs::Unlaid(_) => None,
+        }
+    }
+
+    /// The out-arcs of the vertex `gid` and its local number, and None where it has no proxy on this host.
+    pub(crate) fn run_from<'a>(&'a self, gid: u32) -> Option<(u32, Run<'a>)>
+        ensures { TellsInArcs self.now gid result }
+    {
+        let out = &self.out;
+        let tail = self.local(gid)?;
+        Some((tail, out.of(tail)))
     }
 
     /// No arcs.

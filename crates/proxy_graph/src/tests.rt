@@ -34,10 +34,12 @@ fn edge(src: u32, dst: u32, weight: u32) -> Edge {
     Edge { src, dst, weight }
 }
 
-/// The local graph of these edges on a host of two, where masters are cut by these starts.
+/// The local graph of these edges on a host of two, where masters are cut by these starts and arcs are laid
+/// for this way.
 fn assembled(
     rt: &impl Abort,
     alloc: Global,
+    laid: Way,
     host: u16,
     starts: &[u32],
     edges: &[Edge],
@@ -47,7 +49,7 @@ fn assembled(
     let nodes = (starts.len() - 1) as u32;
     assert!(rt; are_within(nodes, edges));
     let masters = Masters::new(alloc, MasterRule::Edges, 2, starts)?;
-    Ok(LocalGraph::assemble(alloc, host, &masters, nodes, edges)?)
+    Ok(LocalGraph::assemble_for(alloc, laid, host, &masters, nodes, edges)?)
 }
 
 /// The same of a list with the edge from 0 to 1 of weight 7, where these are the starts of two vertices.
@@ -66,7 +68,7 @@ fn assembled_list(
     };
     let list = EdgeList::from_parts(2, vec![in alloc; only]?);
     let masters = Masters::new(alloc, MasterRule::Edges, 2, starts)?;
-    Ok(LocalGraph::assemble_list(alloc, host, &masters, list)?)
+    Ok(LocalGraph::assemble_list(alloc, Way::Outward, host, &masters, list)?)
 }
 
 /// The heads of the arcs out of a proxy of this graph.
@@ -119,11 +121,13 @@ fn proxies_are_told(rt: HostRuntime) -> Result<(), Fail> {
             ],
         ),
     ] {
-        let graph = assembled(&rt, rt.alloc(), host, starts, edges)?;
-        assert_eq!(rt; (graph.host(), graph.hosts(), graph.nodes()), (host, 2, 4));
-        assert_eq!(rt; (graph.edges(), graph.masters()), (2, masters));
-        assert_eq!(rt; graph.local(0).is_none(), host == 1);
-        assert_eq!(rt; proxies(rt.alloc(), &graph)?.as_slice(), want.as_slice());
+        for laid in [Way::Outward, Way::Inward] {
+            let graph = assembled(&rt, rt.alloc(), laid, host, starts, edges)?;
+            assert_eq!(rt; (graph.host(), graph.hosts(), graph.nodes()), (host, 2, 4));
+            assert_eq!(rt; (graph.edges(), graph.masters()), (2, masters));
+            assert_eq!(rt; graph.local(0).is_none(), host == 1);
+            assert_eq!(rt; proxies(rt.alloc(), &graph)?.as_slice(), want.as_slice());
+        }
     }
     Ok(())
 }
@@ -163,10 +167,13 @@ fn arcs_are_lent_in_file_order(rt: HostRuntime) -> Result<(), Fail> {
             [(1, 3), (0, 2), (1, 3)].as_slice(),
         ),
     ] {
-        let graph = assembled(&rt, rt.alloc(), host, starts, edges)?;
-        assert_eq!(rt; heads(&rt, rt.alloc(), &graph, way, tail)?.as_slice(), want);
+        // Arcs that are not laid are found, and come in the same order.
+        for laid in [Way::Both, Way::Outward] {
+            let graph = assembled(&rt, rt.alloc(), laid, host, starts, edges)?;
+            assert_eq!(rt; heads(&rt, rt.alloc(), &graph, way, tail)?.as_slice(), want);
+        }
     }
-    let graph = assembled(&rt, rt.alloc(), 1, &[0], &[])?;
+    let graph = assembled(&rt, rt.alloc(), Way::Both, 1, &[0], &[])?;
     assert_eq!(rt; graph.proxies(), 0);
     Ok(())
 }
@@ -175,7 +182,7 @@ fn arcs_are_lent_in_file_order(rt: HostRuntime) -> Result<(), Fail> {
 fn a_list_that_is_given_up_gives_the_same(rt: HostRuntime) -> Result<(), Fail> {
     let starts: &[u32] = &[0, 1, 1];
     for host in 0..2 {
-        let lent = assembled(&rt, rt.alloc(), host, starts, &[edge(0, 1, 7)])?;
+        let lent = assembled(&rt, rt.alloc(), Way::Both, host, starts, &[edge(0, 1, 7)])?;
         let given = assembled_list(&rt, rt.alloc(), host, starts)?;
         let want = proxies(rt.alloc(), &lent)?;
         assert_eq!(rt; (given.host(), given.edges()), (host, 1));

@@ -23,22 +23,22 @@ returns-in_err-demand_node-clause-taken g c =
     let p = err_from_is_err_and c.from_residual-in_err-demand_node.result c.from_residual-in_err-demand_node.ensures.1 in
     rw (p.1, p.2) (root_left c.args.root (g.S.Source.left c.args.source.now) (g.S.Source.left c.read_head.new.source) c.in_ok-head.head c.in_err-demand_node.field-0.0 (sym c.in_err-demand_node.ensures) c.in_ok-head.ensures.means)
 
-pub returns-in_err-build-clause-means : goal.returns-in_err-build-clause-means
-returns-in_err-build-clause-means g c =
-    let p = err_from_is_err_and c.from_residual-in_err-build.result c.from_residual-in_err-build.ensures.1 in
-    rw (p.1, p.2) (rest_stops c.args.root (g.S.Source.left c.args.source.now) (g.S.Source.left c.read_head.new.source) (g.S.Source.left c.build.new.source)
-    c.in_ok-head.head c.in_err-build.field-0.0 (sym c.in_ok-demand_node.ensures) c.in_ok-head.ensures.means
-    (rw c.in_ok-head.ensures.ok at c.in_err-build.ensures.finds))
+pub returns-in_err-build_for-clause-means : goal.returns-in_err-build_for-clause-means
+returns-in_err-build_for-clause-means g c =
+    let p = err_from_is_err_and c.from_residual-in_err-build_for.result c.from_residual-in_err-build_for.ensures.1 in
+    rw (p.1, p.2) (rest_stops c.args.root (g.S.Source.left c.args.source.now) (g.S.Source.left c.read_head.new.source) (g.S.Source.left c.build_for.new.source)
+    c.in_ok-head.head c.in_err-build_for.field-0.0 (sym c.in_ok-demand_node.ensures) c.in_ok-head.ensures.means
+    (rw c.in_ok-head.ensures.ok at c.in_err-build_for.ensures.finds))
 
-pub returns-in_err-build-clause-taken : goal.returns-in_err-build-clause-taken
-returns-in_err-build-clause-taken g c =
-    let p = err_from_is_err_and c.from_residual-in_err-build.result c.from_residual-in_err-build.ensures.1 in
-    rw (p.1, p.2) (rest_left (g.S.Source.left c.args.source.now) (g.S.Source.left c.read_head.new.source) (g.S.Source.left c.build.new.source)
-    c.in_ok-head.head c.in_err-build.field-0.0 c.in_ok-head.ensures.means c.in_ok-head.ensures.taken
-    (rw c.in_ok-head.ensures.ok at c.in_err-build.ensures.taken))
+pub returns-in_err-build_for-clause-taken : goal.returns-in_err-build_for-clause-taken
+returns-in_err-build_for-clause-taken g c =
+    let p = err_from_is_err_and c.from_residual-in_err-build_for.result c.from_residual-in_err-build_for.ensures.1 in
+    rw (p.1, p.2) (rest_left (g.S.Source.left c.args.source.now) (g.S.Source.left c.read_head.new.source) (g.S.Source.left c.build_for.new.source)
+    c.in_ok-head.head c.in_err-build_for.field-0.0 c.in_ok-head.ensures.means c.in_ok-head.ensures.taken
+    (rw c.in_ok-head.ensures.ok at c.in_err-build_for.ensures.taken))
 
 pub returns-clause-means : goal.returns-clause-means
 returns-clause-means g c =
-    finds c.args.root c.args.rules c.args.hosts c.in_ok-build.field-0.items (g.S.Source.left c.args.source.now) (g.S.Source.left c.read_head.new.source) (g.S.Source.left c.build.new.source)
+    finds c.args.root c.args.rules c.args.hosts c.in_ok-build_for.field-0.items (g.S.Source.left c.args.source.now) (g.S.Source.left c.read_head.new.source) (g.S.Source.left c.build_for.new.source)
     c.in_ok-head.head (sym c.in_ok-demand_node.ensures) c.in_ok-head.ensures.means
-    (rw c.in_ok-head.ensures.ok at c.in_ok-build.ensures.finds)
+    (rw c.in_ok-head.ensures.ok at c.in_ok-build_for.ensures.finds)

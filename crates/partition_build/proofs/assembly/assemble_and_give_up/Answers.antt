@@ -37,27 +37,27 @@ offset_bounds-deref-place c =
     let own = λ (edge : Edge). nat_lt (slice_index plan.masters edge.src) c.loop-host.host in
     omega (arith, within, long, few, length-filter own graph.edges, count_by-le-length own graph.edges)
 
-pub slice_bounds-assemble-count : goal.slice_bounds-assemble-count
-slice_bounds-assemble-count c = (parts_here c).within
+pub slice_bounds-assemble_for-count : goal.slice_bounds-assemble_for-count
+slice_bounds-assemble_for-count c = (parts_here c).within
 
-pub slice_bounds-assemble-start : goal.slice_bounds-assemble-start
-slice_bounds-assemble-start c = (parts_here c).within
+pub slice_bounds-assemble_for-start : goal.slice_bounds-assemble_for-start
+slice_bounds-assemble_for-start c = (parts_here c).within
 
-pub assemble-requires-clause-few_edges : goal.assemble-requires-clause-few_edges
-assemble-requires-clause-few_edges c =
+pub assemble_for-requires-clause-few_edges : goal.assemble_for-requires-clause-few_edges
+assemble_for-requires-clause-few_edges c =
     let plan = c.args.plan.now in
     let graph = c.args.list in
-    let parts = parts_here (goal.at.assemble-requires-clause-few_edges c).After-deref in
+    let parts = parts_here (goal.at.assemble_for-requires-clause-few_edges c).After-deref in
     let long = ap (λ (es : List Edge). length es) parts.behind in
     let few = c.nodes-nodes.ensures.facts.edges_fit in
     let own = λ (edge : Edge). slice_index plan.masters edge.src == c.loop-host.host - 1 in
     omega (arith, few, long, length-filter own graph.edges, count_by-le-length own graph.edges)
 
-pub assemble-requires-clause-within : goal.assemble-requires-clause-within
-assemble-requires-clause-within c =
+pub assemble_for-requires-clause-within : goal.assemble_for-requires-clause-within
+assemble_for-requires-clause-within c =
     let plan = c.args.plan.now in
     let graph = c.args.list in
-    let parts = parts_here (goal.at.assemble-requires-clause-within c).After-deref in
+    let parts = parts_here (goal.at.assemble_for-requires-clause-within c).After-deref in
     let own = λ (edge : Edge). slice_index plan.masters edge.src == c.loop-host.host - 1 in
     subst (λ (es : List Edge). All (IsWithin c.nodes-nodes.result) es) (sym parts.behind)
     (subst (λ (n : ℕ). All (IsWithin n) (edges_from plan graph (c.loop-host.host - 1))) (sym c.nodes-nodes.ensures.nodes)
@@ -70,11 +70,11 @@ loop-host-preserved c =
     let host = c.loop-host.host - 1 in
     let some : 0 < c.loop-host.host = omega (arith, c.loop-host-test.true) in
     let parts = parts_here (goal.at.loop-host-preserved c).After-deref in
-    let made : c.in_ok-assemble.field-0 ≡ share_by plan graph.nodes host (edges_from plan graph host) = rw (c.in_ok-assemble.ensures, c.masters-masters.ensures.hosts, c.masters-masters.ensures.masters, parts.behind, c.nodes-nodes.ensures.nodes) refl in
+    let made : c.in_ok-assemble_for.field-0 ≡ share_by plan graph.nodes host (edges_from plan graph host) = rw (c.in_ok-assemble_for.ensures, c.masters-masters.ensures.hosts, c.masters-masters.ensures.masters, parts.behind, c.nodes-nodes.ensures.nodes) refl in
     record {
       left = c.shrink_to_fit.ensures.items ∙ c.truncate.ensures.items ∙ ap (λ (es : List Edge). take c.place_from-place.result es) (sym c.deref.ensures.value) ∙ parts.before;
       made = ap (λ (xs : List Share). shares_by_source plan graph host ++ reverse xs) c.in_ok-push.ensures.items
-          ∙ one_share_more plan graph host c.loop-host.graphs.items c.in_ok-assemble.field-0 made
+          ∙ one_share_more plan graph host c.loop-host.graphs.items c.in_ok-assemble_for.field-0 made
           ∙ ap (λ (n : ℕ). shares_by_source plan graph n ++ reverse c.loop-host.graphs.items) (let e : host + 1 ≡ c.loop-host.host = omega (arith, some) in e)
           ∙ c.loop-host.invariant.made;
     }

@@ -4,12 +4,13 @@ use Rattle.std.proofs.lemmas.List.Elements.{All-weaker}
 use Rattle.graph_model.specs.Graph.{most_nodes}
 use Rattle.graph_division.specs.Shares.{Share}
 use Rattle.proxy_graph.specs.Drafts.{IsDraftOf}
+use Rattle.proxy_graph.specs.Sorting.{AreInArcsOf}
 use Rattle.proxy_graph.specs.Sides.{Side, Out, Back, key_of}
 use Rattle.proxy_graph.specs.declared.draft.Draft.{Draft}
 use Rattle.proxy_graph.specs.declared.local_graph.LocalGraph.TheInside.{Inside}
 use Rattle.proxy_graph.proofs.Read.{few_proxies}
 use Rattle.proxy_graph.proofs.Rows.{columns_sorted}
-use Rattle.proxy_graph.proofs.Assembled.{AreFields, proxies_long, keyed, kept_fields, stands}
+use Rattle.proxy_graph.proofs.Assembled.{AreFields, in_arcs_are, proxies_long, keyed, kept_fields, stands}
 use Rattle.proxy_graph.proofs.local_graph.LocalGraph.of_draft.Goals as goal
 use Rattle.proxy_graph.proofs.local_graph.LocalGraph.of_draft.Goals.{In_ok-out}
 
@@ -37,6 +38,10 @@ made c = record {
   back = c.in_ok-back.back;
 }
 
+-- the proxies, counted
+same_count : (c : In_ok-out) → c.args.draft.count + c.len.result ≡ c.args.draft.count + length c.args.draft.mirrors.items
+same_count c = omega (arith, c.len.ensures)
+
 -- they are those of the share
 fields : (c : In_ok-out) (share : Share) (is : IsDraftOf share c.args.draft) → AreFields share c.args.draft.first c.args.draft.count is.table c.args.draft.mirrors.items (made c)
 fields c share is =
@@ -52,13 +57,27 @@ fields c share is =
       hosted = refl;
       mirrored = refl;
       out = columns_sorted Out proxies is.table share.edges c.in_ok-out.out c.deref-4.result.now columns.heads.items columns.weights.items (keyed is.proxies Out) (c.deref-4.ensures.value ∙ is.tails) is.heads is.weights c.in_ok-out.ensures;
-      back = columns_sorted Back proxies is.table share.edges c.in_ok-back.back c.deref.result.now c.deref-2.result.now c.deref-3.result.now (keyed is.proxies Back) (c.deref.ensures.value ∙ is.heads) (c.deref-2.ensures.value ∙ is.tails) (c.deref-3.ensures.value ∙ is.weights) c.in_ok-back.ensures;
+      back =
+          let P : ℕ → Type 0 = λ n. AreInArcsOf n c.deref.result.now c.deref-2.result.now c.deref-3.result.now c.in_ok-back.back in
+          in_arcs_are proxies is.table share.edges c.in_ok-back.back c.deref.result.now c.deref-2.result.now c.deref-3.result.now (keyed is.proxies Back) (c.deref.ensures.value ∙ is.heads) (c.deref-2.ensures.value ∙ is.tails) (c.deref-3.ensures.value ∙ is.weights) (subst P (same_count c) c.in_ok-back.ensures);
     }
 
-pub sorted-requires-clause-known : goal.sorted-requires-clause-known
-sorted-requires-clause-known c =
+pub overflow_cast-proxies : goal.overflow_cast-proxies
+overflow_cast-proxies c = omega (arith, c.len.ensures, few c.requires.share c.args.draft c.requires.of_share)
+
+pub overflow_add-proxies : goal.overflow_add-proxies
+overflow_add-proxies c = omega (arith, c.len.ensures, few c.requires.share c.args.draft c.requires.of_share)
+
+pub new-requires-clause-few_proxies : goal.new-requires-clause-few_proxies
+new-requires-clause-few_proxies c = omega (arith, c.len.ensures, few c.requires.share c.args.draft c.requires.of_share)
+
+pub new-requires-clause-known : goal.new-requires-clause-known
+new-requires-clause-known c =
     let is = c.requires.of_share in
-    known c.requires.share c.args.draft is Back c.deref.result.now (c.deref.ensures.value ∙ is.heads)
+    let column = map (key_of Back is.table) c.requires.share.edges in
+    let P : List ℕ → Type 0 = λ some. All (λ key. key < c.args.draft.count + c.len.result) some in
+    let counted : c.args.draft.count + length c.args.draft.mirrors.items ≡ c.args.draft.count + c.len.result = omega (arith, c.len.ensures) in
+    subst P (sym (c.deref.ensures.value ∙ is.heads)) (subst (λ (n : ℕ). All (λ key. key < n) column) counted (keyed is.proxies Back))
 
 pub by_tail-requires-clause-known : goal.by_tail-requires-clause-known
 by_tail-requires-clause-known c =
