@@ -4,3 +4,5 @@ pub mod FirstBits
 pub mod Marked
 pub mod Cleared
 pub mod Ranked
+pub mod Between
+pub mod LastBits

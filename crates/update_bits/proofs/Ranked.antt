@@ -78,7 +78,7 @@ count_of-below words i mask inside fits low =
     omega (arith, before, here, all)
 
 -- the bits that are set in the first words
-count_of-front : (words : List ℕ) (w : ℕ) → All (λ w. w < 2 ^ 64) words → w ≤ length words → sum_by count_ones (take w words) ≡ count_of (take (w * 64) (unpacked 64 words))
+pub count_of-front : (words : List ℕ) (w : ℕ) → All (λ w. w < 2 ^ 64) words → w ≤ length words → sum_by count_ones (take w words) ≡ count_of (take (w * 64) (unpacked 64 words))
 count_of-front words w fit within =
     ones-unpacked (take w words) (All-take (λ w. w < 2 ^ 64) w words fit)
     ∙ sym (count_of-count_by (unpacked 64 (take w words)))
@@ -93,7 +93,7 @@ AreCountsBefore-sums words before fit each sums = record {
 }
 
 -- the set has the bits of its words up to each place
-take-set_in : (count i : ℕ) (words : List ℕ) (bits : List Bool) → set_in count words ≡ bits → i ≤ count → take i (unpacked 64 words) ≡ take i bits
+pub take-set_in : (count i : ℕ) (words : List ℕ) (bits : List Bool) → set_in count words ≡ bits → i ≤ count → take i (unpacked 64 words) ≡ take i bits
 take-set_in count i words bits view within = sym (take-take i count (unpacked 64 words) within) ∙ ap (take i) view
 
 -- what the words before hold are members of the set

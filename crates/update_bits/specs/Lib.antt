@@ -1,1 +1,3 @@
+pub mod LastBits
+pub mod Members
 pub mod Words

@@ -6,6 +6,7 @@
 //! at the members. A [`RankedBits`] tells for such a set how many members are below a number.
 #![tactic(auto)]
 
+mod last_bit;
 mod marks;
 mod ranked_bits;
 mod spans;

@@ -1,5 +1,6 @@
 //! A set of numbers below a length.
-ghost use Rattle.std.specs.Prelude.{◌≡◌, ◌<◌, ◌≤◌, ◌^◌, ◌&&◌, ℕ, not, nat_le, nat_lt, length, drop, slice_get, All, Some, IfOk, IfSome};
+ghost use Rattle.std.specs.Prelude.{◌≡◌, ◌<◌, ◌≤◌, ◌-◌, ◌^◌, ◌&&◌, ℕ, not, nat_le, nat_lt, length, take, drop, slice_get, All, Some, IfOk, IfSome};
+ghost use Rattle.update_bits.specs.Members.{IsLastMember};
 ghost use Rattle.update_bits.specs.Words.{set_in, AreWords};
 ghost use Rattle.list_laws.specs.Members.{
   has_member,
@@ -14,9 +15,12 @@ ghost use Rattle.list_laws.specs.Members.{
   IsNextMember,
 };
 
+use crate::last_bit::last_bit;
 use crate::marks::{clear_marked, mark_word, next_marked};
 use crate::spans::clear_bits;
-use crate::words::{clear_bit, count_bits, fill_bits, set_bit, test_bit, word_of_nth, words_for};
+use crate::words::{
+    clear_bit, count_bits, fill_bits, ones_between, set_bit, test_bit, word_of_nth, words_for,
+};
 use std::alloc::{AllocError, Global};
 use std::marker::Model;
 
@@ -67,6 +71,15 @@ impl UpdateBits {
         ensures { result ≡ count_of self.now }
     {
         count_bits(&self.words) as u32
+    }
+
+    /// How many members there are from `start` up to, but not including, `end`, which is at most the length.
+    pub fn count_between(&self, start: u32, end: u32) -> u32
+        requires order { start ≤ end }
+        requires within { end ≤ length self.now }
+        ensures { result ≡ count_of (take (end - start) (drop start self.now)) }
+    {
+        ones_between(&self.words, start, end) as u32
     }
 
     /// Whether `i`, a number below the length, is a member.
@@ -139,6 +152,14 @@ impl UpdateBits {
         ensures below { IfSome result (λ m. m < length self.now) }
     {
         next_marked(&self.words, &self.marks, i)
+    }
+
+    /// The greatest member below `end`, and None exactly where there is none. `end` is at most the length.
+    pub fn last_before(&self, end: u32) -> Option<u32>
+        requires { end ≤ length self.now }
+        ensures { IsLastMember self.now end result }
+    {
+        last_bit(&self.words, end)
     }
 
     /// The member at `place`, counted from 0 among the members by rising number. `place` is below their count.

@@ -75,6 +75,38 @@ pub(crate) fn ones_below(words: &[u64], i: u32) -> u32
     (words[(i / 64) as usize] & ((1 << (i % 64)) - 1)).count_ones()
 }
 
+/// How many bits are set from the first of the word of bit `i` up to bit `i`, which may stand at the end.
+fn ones_up_to(words: &[u64], i: u32) -> u32
+    requires { i ≤ length words.now * 64 }
+    ensures { let bits = unpacked 64 words.now in count_of (take (i / 64 * 64) bits) + result ≡ count_of (take i bits) }
+{
+    if i % 64 == 0 {
+        return 0;
+    }
+    ones_below(words, i)
+}
+
+/// How many bits are set in the words from `first` up to, but not including, `last`.
+fn ones_of_words(words: &[u64], first: u32, last: u32) -> u64
+    requires order { first ≤ last }
+    requires within { last ≤ length words.now }
+    requires short { length words.now ≤ 2 ^ 26 }
+    ensures { let bits = unpacked 64 words.now in count_of (take (first * 64) bits) + result ≡ count_of (take (last * 64) bits) }
+{
+    sum_ones(&words[first as usize..last as usize])
+}
+
+/// How many bits are set from bit `start` up to, but not including, bit `end`.
+pub(crate) fn ones_between(words: &[u64], start: u32, end: u32) -> u64
+    requires order { start ≤ end }
+    requires within { end ≤ length words.now * 64 }
+    requires short { length words.now ≤ 2 ^ 26 }
+    ensures { let bits = unpacked 64 words.now in count_of (take start bits) + result ≡ count_of (take end bits) }
+{
+    let whole = ones_of_words(words, start / 64, end / 64);
+    whole + ones_up_to(words, end) as u64 - ones_up_to(words, start) as u64
+}
+
 /// For each word, how many bits are set in the words before it.
 pub(crate) fn ones_before(alloc: Global, words: &[u64]) -> Result<Vec<u32>, AllocError>
     requires { count_of (unpacked 64 words.now) < 2 ^ 32 }
