@@ -1,4 +1,4 @@
--- The last bit that is set below a place, within a word and from word to word.
+-- The last bit that is set below a place, and the last member of the set.
 use Rattle.std.proofs.Common.{◌≡◌, ℕ, suc, ◌+◌, ◌-◌, ◌*◌, ◌/◌, ◌%◌, ◌^◌, ◌<◌, ◌≤◌, false, List, get_or, sym, ap, subst, ◌∙◌, pow-add, arith, inl, inr}
 use Rattle.std.specs.Prelude.{nat_eq, bit_and, min, Option, Some, None}
 use Rattle.std.specs.Int.{bit_at}
@@ -59,24 +59,6 @@ none_below words i mask k is none before same =
     let zero_bit : bit_at word (k % 64) ≡ 0 = sym (inside_bit word (i % 64) mask is (k % 64) (omega arith)) ∙ ap (λ n. bit_at n (k % 64)) none ∙ bit_at-zero (k % 64) in
     ap (λ p. nat_eq (bit_at (get_or words p 0) (k % 64)) 1) same ∙ ap (λ b. nat_eq b 1) zero_bit
 
--- the highest bit of a word is the last, where none behind the word is set
-pub greatest_in_words : (words : List ℕ) (i place bit : ℕ) → IsHighestBit (get_or words place 0) bit → (place + 1) * 64 ≤ i → ((k : ℕ) → (place + 1) * 64 ≤ k → k < i → bit_in words k ≡ false)
-    → IsGreatestBit words i (place * 64 + bit)
-greatest_in_words words i place bit h end none =
-    let inside : bit < 64 = h.below in
-    let here : (place * 64 + bit) / 64 ≡ place = omega arith in
-    let bit_is : (place * 64 + bit) % 64 ≡ bit = omega arith in
-    record {
-      set = ap (λ p. nat_eq (bit_at (get_or words p 0) ((place * 64 + bit) % 64)) 1) here ∙ ap (λ n. nat_eq (bit_at (get_or words place 0) n) 1) bit_is ∙ eq-eqb (bit_at (get_or words place 0) bit) 1 h.set;
-      before = omega arith;
-      last = λ k over before. elim (cases_lt k ((place + 1) * 64)) [
-        | inl low ↦
-            let same : k / 64 ≡ place = omega arith in
-            ap (λ p. nat_eq (bit_at (get_or words p 0) (k % 64)) 1) same ∙ ap (λ b. nat_eq b 1) (h.above (k % 64) (omega arith))
-        | inr high ↦ none k high before
-      ];
-    }
-
 -- the highest bit of what is left of the word is the last below the place
 pub greatest_in_word : (words : List ℕ) (i mask bit : ℕ) → mask ≡ 2 ^ (i % 64) - 1 → IsHighestBit (bit_and (get_or words (i / 64) 0) mask) bit → IsGreatestBit words i (i / 64 * 64 + bit)
 greatest_in_word words i mask bit is h =
@@ -94,16 +76,7 @@ greatest_in_word words i mask bit is h =
           ∙ ap (λ b. nat_eq b 1) (sym (inside_bit word (i % 64) mask is (k % 64) (omega arith)) ∙ h.above (k % 64) (omega arith));
     }
 
--- ---- from word to word
-
--- the last bit below an earlier place, where none from there on is set
-pub last_earlier : (words : List ℕ) (i earlier : ℕ) (last : Option ℕ) → earlier ≤ i → ((k : ℕ) → earlier ≤ k → k < i → bit_in words k ≡ false) → IsLastBit words earlier last → IsLastBit words i last
-last_earlier words i earlier None order none h = λ k before. elim (cases_lt k earlier) [ inl low ↦ h k low | inr high ↦ none k high before ]
-last_earlier words i earlier (Some m) order none h = record {
-  set = h.set;
-  before = let before : m < earlier = h.before in omega arith;
-  last = λ k over before. elim (cases_lt k earlier) [ inl low ↦ h.last k over low | inr high ↦ none k high before ];
-}
+-- ---- of a set
 
 -- the last bit is the last member
 pub last_member : (count : ℕ) (words : List ℕ) (i : ℕ) (last : Option ℕ) → i ≤ count → IsLastBit words i last → IsLastMember (set_in count words) i last

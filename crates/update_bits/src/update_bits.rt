@@ -239,6 +239,55 @@ mod tests {
     }
 
     #[test]
+    fn members_between_are_counted_and_the_last_is_found(rt: HostRuntime) -> Result<(), Fail> {
+        let mut bits = UpdateBits::new(rt.alloc(), 200)?;
+        assert_eq!(rt;
+            (bits.count_between(0, 200), bits.last_before(200)),
+            (0, None)
+        );
+        for member in [1, 63, 64, 130, 199] {
+            assert!(rt; member < bits.len());
+            bits.set(member);
+        }
+        for (start, end, want) in [
+            (0, 0, 0),
+            (0, 2, 1),
+            (2, 63, 0),
+            (63, 65, 2),
+            (64, 128, 1),
+            (65, 130, 0),
+            (130, 131, 1),
+            (1, 199, 4),
+            (0, 200, 5),
+            (200, 200, 0),
+        ] {
+            assert!(rt; start <= end);
+            assert!(rt; end <= bits.len());
+            assert_eq!(rt;
+                bits.count_between(start, end),
+                want,
+                "from {start} to {end}"
+            );
+        }
+        for (end, want) in [
+            (0, None),
+            (1, None),
+            (2, Some(1)),
+            (63, Some(1)),
+            (64, Some(63)),
+            (65, Some(64)),
+            (128, Some(64)),
+            (130, Some(64)),
+            (131, Some(130)),
+            (200, Some(199)),
+        ] {
+            assert!(rt; end <= bits.len());
+            assert_eq!(rt; bits.last_before(end), want, "before {end}");
+        }
+        Ok(())
+    }
+
+    #[test]
     fn few_members_of_a_large_set_are_found(rt: HostRuntime) -> Result<(), Fail> {
         let mut bits = UpdateBits::new(rt.alloc(), 20_000)?;
         bits.set(70);
@@ -266,6 +315,11 @@ mod tests {
                 "length {length}"
             );
             let last = length.checked_sub(1);
+            assert_eq!(rt;
+                (bits.count_between(0, length), bits.last_before(length)),
+                (length, last),
+                "length {length}"
+            );
             if let Some(last) = last {
                 assert!(rt; last < bits.count());
                 assert_eq!(rt; bits.nth(last), last, "length {length}");
