@@ -15,3 +15,6 @@ pub mod NextUpdated
 pub mod SentTag
 pub mod CarriedValues
 pub mod NextEntry
+pub mod Runs
+pub mod Counted
+pub mod RunCounts

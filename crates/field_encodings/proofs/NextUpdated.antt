@@ -1,5 +1,5 @@
 -- How the next member of a set is the next updated position of a list.
-use Rattle.std.specs.Prelude.{◌≡◌, ◌≤◌, ◌<◌, ◌-◌, ℕ, Bool, false, List, length}
+use Rattle.std.specs.Prelude.{◌≡◌, ◌≤◌, ◌<◌, ◌-◌, ℕ, Bool, true, false, List, length}
 use Rattle.std.specs.List.Sorted.{IsStrictlyIncreasing}
 use Rattle.std.proofs.Common.{arith, get_or, ap, ◌∙◌, inl, inr}
 use Rattle.std.proofs.lemmas.Bool.{cases_lt}
@@ -16,6 +16,14 @@ module _ (bits : List Bool) (locals : List ℕ) where
   -- past the list there is none
   pub mark_past : (k : ℕ) → length locals ≤ k → has_member (marks_at bits locals) k ≡ false
   mark_past k l = get_or_past (marks_at bits locals) k false (omega (arith, length-map locals (has_member bits)))
+
+  -- an updated position is the next one
+  pub next_here : (place : ℕ) → place < length locals → has_member bits (get_or locals place 0) ≡ true → IsLeastMemberSince (marks_at bits locals) place place
+  next_here place inside updated = record {
+    member = mark_here place inside ∙ updated;
+    since = omega arith;
+    least = λ k a b. absurd (omega arith);
+  }
 
   module _ (rise : IsStrictlyIncreasing locals) where
     -- the set has no member from a local number of the list on

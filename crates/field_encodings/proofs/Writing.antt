@@ -1,15 +1,22 @@
 -- What a pass over the updated positions of a list keeps: what is written so far, followed by what the
 -- rest asks for, is the whole.
-use Rattle.std.specs.Prelude.{◌≡◌, ◌≤◌, ◌<◌, ◌+◌, ◌*◌, ℕ, zero, suc, Bool, List, [], ◌∷◌, ◌++◌, length, take, drop, slice_get, Option, Some, None, IsSome, refl}
-use Rattle.std.specs.List.{flat_map, All}
-use Rattle.std.proofs.Common.{arith, get_or, sym, ap, subst, ◌∙◌, append_assoc}
-use Rattle.std.proofs.lemmas.List.{drop_more, drop_all, take_all, append-nil, length-map, nil_from_length}
+use Rattle.std.specs.Prelude.{◌≡◌, ◌≤◌, ◌<◌, ◌+◌, ◌*◌, ◌/◌, ◌%◌, ◌^◌, ℕ, zero, suc, Bool, true, false, cond, List, [], ◌∷◌, ◌++◌, length, take, drop, slice_get, bit_or, Option, Some, None, IsSome, refl}
+use mir.Val.{bool_byte}
+use Rattle.std.specs.Int.Bits.{or_zero_r}
+use Rattle.std.specs.List.{flat_map, items_where_true, All}
+use Rattle.std.proofs.Common.{arith, get_or, set, sym, ap, subst, ◌∙◌, append_assoc, inl, inr}
+use Rattle.std.proofs.Math.Nat.{mul-le-mul_right}
+use Rattle.std.proofs.lemmas.Bool.{cases_lt}
+use Rattle.std.proofs.lemmas.List.{drop_more, drop_all, take_more, take_all, take-take, take-append-le, append-nil, length-map, length-take-le, nil_from_length}
 use Rattle.std.proofs.lemmas.List.Elements.{All-head, All-tail}
 use Rattle.list_laws.specs.Members.{has_member, members, IsLeastMemberSince, IsNextMember}
-use Rattle.list_laws.proofs.Members.{members_since, members_since-next, members_since-none, IsMember-lt-length}
+use Rattle.list_laws.proofs.Members.{members_since, members_since-next, members_since-no, members_since-none, members_since-end, IsMember-lt-length}
+use Rattle.list_laws.specs.Bits.{packed}
+use Rattle.list_laws.proofs.PackedBits.{packed-push, packed-lt, or_bit}
 use Rattle.list_laws.proofs.Places.{element_at}
 use Rattle.list_laws.proofs.Since.{items_since, items_since-next, items_since-none}
 use Rattle.field_encodings.specs.Lists.{marks_at, values_at}
+use Rattle.field_encodings.proofs.NextUpdated.{mark_here, next_here}
 
 -- ---- values of a list
 
@@ -141,3 +148,82 @@ AreSentTo-end write size bits values locals count place written text has all lon
     written_whole write size written count text (flat_map write (items_since marks (values_at values locals) 0)) (items_since marks (values_at values locals) place)
     (items_since-none marks (values_at values locals) place (length-values_at values locals has ∙ sym (length-map locals (has_member bits))) none)
     (omega (arith, so_far.left)) long so_far.sent
+
+-- ---- from one position to the next, updated or not
+
+-- while fewer are written than there are, the position is in the list
+pub is_inside : (bits : List Bool) (locals : List ℕ) (place written count : ℕ) → written + length (members_since (marks_at bits locals) place) ≡ count → written < count → place < length locals
+is_inside bits locals place written count left more =
+    elim (cases_lt place (length locals)) [
+      | inl inside ↦ inside
+      | inr past ↦
+          let none : members_since (marks_at bits locals) place ≡ []
+          = members_since-end (marks_at bits locals) place (omega (arith, length-map locals (has_member bits))) in
+          absurd (omega (arith, ap length none))
+    ]
+
+-- nothing is chosen at a position that is not updated
+items_since-pass : {X : Type 0} (d : X) (marks : List Bool) (xs : List X) (i : ℕ) → i < length marks → length xs ≡ length marks → has_member marks i ≡ false → items_since marks xs i ≡ items_since marks xs (i + 1)
+items_since-pass d marks xs i inside each m =
+    ap (λ b. items_where_true b (drop i xs)) (drop_more marks i false inside)
+    ∙ ap (λ b. items_where_true (b ∷ drop (i + 1) marks) (drop i xs)) m
+    ∙ ap (λ ys. items_where_true (false ∷ drop (i + 1) marks) ys) (drop_more xs i d (omega arith))
+
+-- what is written behind a front leaves it
+kept_front : (at size : ℕ) (text new piece : List ℕ) → at ≤ length text → take (at + size) new ≡ take at text ++ piece → take at new ≡ take at text
+kept_front at size text new piece room n =
+    sym (take-take at (at + size) new (omega arith))
+    ∙ ap (λ l. take at l) n
+    ∙ take-append-le at (take at text) piece (omega (arith, length-take-le at text room))
+    ∙ take-take at at text (omega arith)
+
+-- one position more, which is not updated: what is written for it lies behind what is kept
+AreSentTo-pass : {X : Type 0} (write : X → List ℕ) (size s : ℕ) (bits : List Bool) (values : List X) (locals : List ℕ) (count place written : ℕ) (text new : List ℕ) (x : X) → All (λ local. local < length values) locals
+    → place < length locals → has_member bits (get_or locals place 0) ≡ false → s ≡ size → written * s ≤ length text → take (written * s + size) new ≡ take (written * s) text ++ write x
+    → AreSentTo write size bits values locals count place written text → AreSentTo write size bits values locals count (place + 1) written new
+AreSentTo-pass write size s bits values locals count place written text new x has inside other same room n so_far =
+    let marks : List Bool = marks_at bits locals in
+    let each : length marks ≡ length locals = length-map locals (has_member bits) in
+    let here : has_member marks place ≡ false = mark_here bits locals place inside ∙ other in
+    let front : take (written * size) new ≡ take (written * size) text
+    = subst (λ z. take (written * z) new ≡ take (written * z) text) same (kept_front (written * s) size text new (write x) room n) in
+    record {
+      left = omega (arith, so_far.left, ap length (members_since-no marks place here));
+      within = omega arith;
+      sent = ap (λ t. t ++ flat_map write (items_since marks (values_at values locals) (place + 1))) front
+          ∙ ap (λ l. take (written * size) text ++ flat_map write l) (sym (items_since-pass x marks (values_at values locals) place (omega arith) (length-values_at values locals has ∙ sym each) here))
+          ∙ so_far.sent;
+    }
+
+-- one position more, updated or not
+pub AreSentTo-step : {X : Type 0} (write : X → List ℕ) (size s : ℕ) (bits : List Bool) (values : List X) (locals : List ℕ) (count place written : ℕ) (text new : List ℕ) (x : X) (updated : Bool) → All (λ local. local < length values) locals
+    → place < length locals → updated ≡ has_member bits (get_or locals place 0) → x ≡ get_or values (get_or locals place 0) x → s ≡ size → written < count → length text ≡ count * size → take (written * s + size) new ≡ take (written * s) text ++ write x
+    → AreSentTo write size bits values locals count place written text → AreSentTo write size bits values locals count (place + 1) (written + bool_byte updated) new
+AreSentTo-step write size s bits values locals count place written text new x true has inside here e same more long n so_far =
+    AreSentTo-next write size s bits values locals count place written place text new x has (next_here bits locals place inside (sym here)) e same n so_far
+AreSentTo-step write size s bits values locals count place written text new x false has inside here e same more long n so_far =
+    let up : written * size ≤ count * size = mul-le-mul_right size (omega arith) in
+    let room : written * s ≤ length text = omega (arith, ap (λ z. written * z) same) in
+    let stays : written ≡ written + 0 = omega arith in
+    subst (λ w. AreSentTo write size bits values locals count (place + 1) w new) stays
+    (AreSentTo-pass write size s bits values locals count place written text new x has inside (sym here) same room n so_far)
+
+-- a bit that is set or not, behind a number below it
+or_mark : (byte bit : ℕ) (mark : Bool) → byte < 2 ^ bit → bit < 8 → bit_or byte ((bool_byte mark * 2 ^ bit) % 2 ^ 8) ≡ byte + cond mark (2 ^ bit) 0
+or_mark byte bit true below low = or_bit byte bit below low
+or_mark byte bit false below low =
+    let none : (0 * 2 ^ bit) % 2 ^ 8 ≡ 0 = omega arith in
+    let same : byte ≡ byte + 0 = omega arith in
+    ap (bit_or byte) none ∙ or_zero_r byte ∙ same
+
+-- the bit of one position more is in its byte
+pub packed_front-step : (count : ℕ) (marks : List Bool) (place : ℕ) (updated : Bool) (bytes : List ℕ) → place < length marks → place / 8 < count → updated ≡ has_member marks place → bytes ≡ packed 8 count (take place marks)
+    → set bytes (place / 8) (bit_or (get_or bytes (place / 8) 0) ((bool_byte updated * 2 ^ (place % 8)) % 2 ^ 8)) ≡ packed 8 count (take (place + 1) marks)
+packed_front-step count marks place updated bytes inside within here e =
+    let long : length (take place marks) ≡ place / 8 * 8 + place % 8 = omega (arith, length-take-le place marks (omega arith)) in
+    let low : place % 8 < 8 = omega arith in
+    let below : get_or (packed 8 count (take place marks)) (place / 8) 0 < 2 ^ (place % 8) = packed-lt count (take place marks) (place / 8) (place % 8) long low within in
+    ap (λ old. set old (place / 8) (bit_or (get_or old (place / 8) 0) ((bool_byte updated * 2 ^ (place % 8)) % 2 ^ 8))) e
+    ∙ ap (λ byte. set (packed 8 count (take place marks)) (place / 8) byte) (or_mark _ (place % 8) updated below low)
+    ∙ sym (packed-push count (take place marks) updated (place / 8) (place % 8) long low within)
+    ∙ sym (ap (packed 8 count) (take_more marks place false inside ∙ ap (λ b. take place marks ++ b ∷ []) (sym here)))

@@ -71,8 +71,10 @@ fn write_shortest<W: Word>(list: &Outgoing<W>, out: &mut [u8]) -> Coded
 /// empty list gives the one byte `03`. `out` has room for the form of all values; what lies behind the
 /// form stays.
 ///
-/// Where few positions are updated they are found from the set. Where it has no member from the list's
-/// first local number to its last, no position is looked at and `03` goes out at once.
+/// Where the set has no member from the list's first local number to its last, no position is looked at and
+/// `03` goes out at once. A list whose local numbers stand in a row is counted by whole words of the set. Of
+/// another list each position is looked at once where many may be updated; where few may be, these are
+/// found from the set.
 pub fn encode<W: Word>(
     values: &[W],
     locals: &[u32],
@@ -123,33 +125,40 @@ mod tests {
     use std::process::Abort;
     use std::test::Fail;
 
-    // The numbers below n, rising.
-    fn numbers_below(alloc: Global, n: u32) -> Result<Vec<u32>, AllocError>
+    // The first n multiples of a step, rising.
+    fn multiples(alloc: Global, n: u32, step: u32) -> Result<Vec<u32>, AllocError>
+        requires few { n ≤ 100000 }
+        requires near { step ≤ 2 }
         ensures len { IfOk result (λ v. vec_len v ≡ n) }
-        ensures each { IfOk result (λ v. (k : ℕ) → k < n → slice_index v.items k ≡ k) }
+        ensures each { IfOk result (λ v. (k : ℕ) → k < n → slice_index v.items k ≡ k * step) }
     {
         let mut numbers = Vec::new(alloc);
         for k in 0..n {
-            numbers.push(k)?;
+            numbers.push(k * step)?;
         }
         Ok(numbers)
     }
 
-    // The form that is sent for n positions with one value, where these are updated.
+    // The form that is sent for n positions with one value, where these are updated. The local numbers, which
+    // are the ids too, are the multiples of the step: a row, or a list with gaps.
     fn form_of<W: Word>(
         rt: &impl Abort,
         alloc: Global,
         n: u32,
+        step: u32,
         updated: &[u32],
         value: W,
     ) -> Result<Vec<u8>, AllocError> {
         assert!(rt; n <= 100_000);
-        let locals = numbers_below(alloc, n)?;
-        let values = vec![in alloc; value; n as usize]?;
-        let mut bits = UpdateBits::new(alloc, n)?;
+        assert!(rt; 0 < step);
+        assert!(rt; step <= 2);
+        let locals = multiples(alloc, n, step)?;
+        let proxies = n * step;
+        let values = vec![in alloc; value; proxies as usize]?;
+        let mut bits = UpdateBits::new(alloc, proxies)?;
         for position in updated {
-            assert!(rt; *position < bits.len());
-            bits.set(*position);
+            assert!(rt; *position < n);
+            bits.set(*position * step);
         }
         let mut out = vec![in alloc; 0xee; 1 + n as usize * W::WIDTH as usize]?;
         let coded = encode(&values, &locals, &locals, &bits, &mut out);
@@ -159,40 +168,60 @@ mod tests {
 
     #[test]
     fn the_shortest_form_goes_out(rt: HostRuntime) -> Result<(), Fail> {
+        // The first rows are lists in a row. The others have gaps: the last of them has few updated positions.
         let rows = [
-            (9, [3].as_slice(), 5, [1, 8, 0, 5, 0, 0, 0].as_slice()),
+            (9, 1, [3].as_slice(), 5, [1, 8, 0, 5, 0, 0, 0].as_slice()),
             (
                 1_000,
+                1,
                 [255].as_slice(),
                 7,
                 [2, 1, 255, 7, 0, 0, 0].as_slice(),
             ),
             (
                 1_000,
+                1,
                 [256].as_slice(),
                 7,
                 [2, 2, 0, 1, 7, 0, 0, 0].as_slice(),
             ),
             (
                 100_000,
+                1,
                 [65_535].as_slice(),
                 7,
                 [2, 2, 255, 255, 7, 0, 0, 0].as_slice(),
             ),
             (
                 100_000,
+                1,
                 [65_536].as_slice(),
                 7,
                 [3, 0, 0, 1, 0, 7, 0, 0, 0].as_slice(),
             ),
-            (5, [].as_slice(), 7, [3].as_slice()),
-            (0, [].as_slice(), 7, [3].as_slice()),
+            (5, 1, [].as_slice(), 7, [3].as_slice()),
+            (0, 1, [].as_slice(), 7, [3].as_slice()),
+            (
+                9,
+                2,
+                [3, 8].as_slice(),
+                5,
+                [1, 8, 1, 5, 0, 0, 0, 5, 0, 0, 0].as_slice(),
+            ),
+            (
+                1_000,
+                2,
+                [9, 256].as_slice(),
+                7,
+                [2, 2, 9, 0, 0, 1, 7, 0, 0, 0, 7, 0, 0, 0].as_slice(),
+            ),
+            (5, 2, [].as_slice(), 7, [3].as_slice()),
         ];
-        for (n, updated, value, want) in rows {
-            let form = form_of::<u32>(&rt, rt.alloc(), n, updated, value)?;
+        for (n, step, updated, value, want) in rows {
+            let form = form_of::<u32>(&rt, rt.alloc(), n, step, updated, value)?;
             assert_eq!(rt; form.as_slice(), want, "of {n} positions");
         }
-        let form = form_of::<u8>(&rt, rt.alloc(), 8, &[0, 1, 2, 3, 4, 5, 6], 9)?;
+        let form = form_of::<u8>(&rt, rt.alloc(), 8, 1, &[0, 1, 2, 3, 4, 5, 6], 9)?;
         assert_eq!(rt; form.as_slice(), [0, 9, 9, 9, 9, 9, 9, 9, 9].as_slice());
         Ok(())
     }

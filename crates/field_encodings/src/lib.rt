@@ -43,6 +43,7 @@ mod places;
 mod put_bytes;
 mod readers;
 mod rising_search;
+mod rows;
 mod updated;
 mod writers;
 
@@ -53,3 +54,4 @@ pub use encoder::encode;
 pub use entries::Entries;
 pub use laws::{form_laws, one_tag_is_sent};
 pub use length_table::lengths;
+pub use rows::is_run;

@@ -75,7 +75,8 @@ pub(crate) fn write_ids<W: Word>(list: &Outgoing<W>, names: &mut [u8], text: &mu
     }
 }
 
-/// Sets the bits of the updated positions, the lowest first, and writes their values.
+/// Sets the bits of the updated positions, the lowest first, and writes their values. It goes over the
+/// positions one by one, with the same steps at each, up to the last that is updated.
 pub(crate) fn write_marked<W: Word>(list: &Outgoing<W>, names: &mut [u8], text: &mut [u8])
     requires names_room { length names.old ≡ vector_length (length list.now.locals.now) }
     requires text_room { length text.old ≡ list.now.count * W.WIDTH }
@@ -84,16 +85,19 @@ pub(crate) fn write_marked<W: Word>(list: &Outgoing<W>, names: &mut [u8], text: 
         ≡ flat_map W.bytes_of (items_where_true (marks_at list.now.bits.now list.now.locals.now) (values_at list.now.values.now list.now.locals.now)) }
 {
     names.fill(0);
-    let mut place = 0;
-    for written in 0..list.count as usize {
-        let position = next_updated(list.locals, list.bits, place).unwrap();
-        let local = list.locals[position as usize];
-        names[position as usize / 8] |= 1 << (position % 8);
+    let mut written = 0;
+    let mut position = 0;
+    while written < list.count as usize {
+        let local = list.locals[position];
+        let updated = list.bits.test(local);
+        names[position / 8] |= (updated as u8) << (position % 8);
+        // A value that is not updated is written over by the next one.
         put_word(
             list.values[local as usize],
             written * W::WIDTH as usize,
             text,
         );
-        place = position + 1;
+        written += updated as usize;
+        position += 1;
     }
 }

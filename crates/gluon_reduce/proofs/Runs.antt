@@ -1,53 +1,14 @@
--- Numbers in a row: how a list that rises is told to be one, and what is left of a set without them.
-use Rattle.std.proofs.Common.{◌≡◌, ◌<◌, ◌≤◌, ◌+◌, ◌-◌, ℕ, zero, suc, Bool, true, false, List, [], ◌∷◌, length, get_or, refl, sym, ap, ◌∙◌, arith, inl, inr}
+-- Numbers in a row: which they are, and what is left of a set without them.
+use Rattle.std.proofs.Common.{◌≡◌, ◌<◌, ◌≤◌, ◌+◌, ℕ, zero, suc, Bool, true, false, List, [], ◌∷◌, length, refl, sym, ap, ◌∙◌, arith, inl, inr}
 use Rattle.std.specs.Prelude.{nat_le, nat_lt, ◌&&◌, ◌||◌, not}
 use Rattle.std.specs.List.{range_with_len}
-use Rattle.std.specs.List.Sorted.{IsStrictlyIncreasing}
 use Rattle.std.proofs.Math.Bool.{and-false, and-true}
 use Rattle.std.proofs.lemmas.Bool.{cases_eq, cases_lt, lt-ltb, le-ltb, lt-leb, le-leb, ne_eqb}
 use Rattle.std.proofs.lemmas.List.{length-set}
 use Rattle.list_laws.specs.Among.{is_among}
 use Rattle.list_laws.proofs.Among.{among_range}
 use Rattle.list_laws.specs.Members.{has_member, without_member, without_all}
-use Rattle.list_laws.specs.Rising.{Rises}
 use Rattle.list_laws.proofs.Members.{same_set, has_member-without_same, has_member-without_other}
-use Rattle.list_laws.proofs.Rising.{Rises-from_increasing}
-
--- ---- lists that rise
-
--- the last number is at least as far above the first as there are numbers behind that
-last_above : (x : ℕ) (xs : List ℕ) → Rises (x + 1) xs → x + length xs ≤ get_or (x ∷ xs) (length xs) 0
-last_above x [] r = omega arith
-last_above x (y ∷ ys) r = let rest : y + length ys ≤ get_or (y ∷ ys) (length ys) 0 = last_above y ys r.1 in omega (arith, r.0)
-
--- where it is no further, each number follows on the one before
-row_from : (x : ℕ) (xs : List ℕ) → Rises (x + 1) xs → get_or (x ∷ xs) (length xs) 0 ≡ x + length xs → x ∷ xs ≡ range_with_len x (suc (length xs))
-row_from x [] r e = refl
-row_from x (y ∷ ys) r e =
-    let above : y + length ys ≤ get_or (y ∷ ys) (length ys) 0 = last_above y ys r.1 in
-    let last : get_or (y ∷ ys) (length ys) 0 ≡ x + suc (length ys) = e in
-    let next : y ≡ x + 1 = omega (arith, r.0) in
-    let rest : y ∷ ys ≡ range_with_len y (suc (length ys)) = row_from y ys r.1 (omega arith) in
-    ap (λ l. x ∷ l) (rest ∙ ap (λ n. range_with_len n (suc (length ys))) next)
-
--- the first is at most the last
-pub first_last : (xs : List ℕ) → IsStrictlyIncreasing xs → 0 < length xs → get_or xs 0 0 ≤ get_or xs (length xs - 1) 0
-first_last [] rise some = absurd (omega arith)
-first_last (x ∷ xs) rise some =
-    let rises : Rises 0 (x ∷ xs) = Rises-from_increasing 0 (x ∷ xs) rise (λ some. omega arith) in
-    let above : x + length xs ≤ get_or (x ∷ xs) (length xs) 0 = last_above x xs rises.1 in
-    let place : suc (length xs) - 1 ≡ length xs = omega arith in
-    rw place (omega arith)
-
--- their difference tells a row
-pub row_of : (xs : List ℕ) → IsStrictlyIncreasing xs → 0 < length xs → get_or xs (length xs - 1) 0 - get_or xs 0 0 ≡ length xs - 1 → xs ≡ range_with_len (get_or xs 0 0) (length xs)
-row_of [] rise some e = absurd (omega arith)
-row_of (x ∷ xs) rise some e =
-    let rises : Rises 0 (x ∷ xs) = Rises-from_increasing 0 (x ∷ xs) rise (λ some. omega arith) in
-    let above : x + length xs ≤ get_or (x ∷ xs) (length xs) 0 = last_above x xs rises.1 in
-    let place : suc (length xs) - 1 ≡ length xs = omega arith in
-    let apart : get_or (x ∷ xs) (length xs) 0 - x ≡ length xs = rw place at e in
-    row_from x xs rises.1 (omega arith)
 
 -- ---- a set without numbers in a row
 

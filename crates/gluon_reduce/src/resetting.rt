@@ -1,11 +1,12 @@
 //! Makes the mirrors of a list ready for the next round.
-ghost use Rattle.std.specs.Prelude.{◌≡◌, ◌<◌, ◌≤◌, ◌&&◌, ℕ, true, nat_le, if◌then◌else◌, length, slice_index};
-ghost use Rattle.std.specs.List.{All, slice_index_or, range_with_len};
+ghost use Rattle.std.specs.Prelude.{◌≡◌, ◌<◌, ◌≤◌, ◌&&◌, ℕ, nat_le, if◌then◌else◌, length};
+ghost use Rattle.std.specs.List.{All, slice_index_or};
 ghost use Rattle.std.specs.List.Sorted.{IsStrictlyIncreasing};
 ghost use Rattle.list_laws.specs.Among.{is_among};
 ghost use Rattle.list_laws.specs.Members.{count_of, without_all};
 ghost use Rattle.field_encodings.specs.Lists.{marks_at};
 
+use field_encodings::is_run;
 use reduce_laws::Reduction;
 use update_bits::UpdateBits;
 
@@ -28,27 +29,14 @@ fn clear_listed(locals: &[u32], bits: &mut UpdateBits)
     requires has_bits { All (λ local. local < length bits.old) locals.now }
     ensures { bits.new ≡ without_all bits.old locals.now }
 {
-    if !is_run(locals) {
-        bits.clear_each(locals);
+    if is_run(locals) {
+        let proxies = bits.len();
+        let last = locals[locals.len() - 1];
+        prove!(last < proxies);
+        bits.clear_between(locals[0], last + 1);
         return;
     }
-    let proxies = bits.len();
-    let last = locals[locals.len() - 1];
-    prove!(last < proxies);
-    bits.clear_between(locals[0], last + 1);
-}
-
-/// Whether a list, which rises, has numbers, and they stand in a row.
-fn is_run(locals: &[u32]) -> bool
-    requires { IsStrictlyIncreasing locals.now }
-    ensures some { result ≡ true → 0 < length locals.now }
-    ensures row { result ≡ true → locals.now ≡ range_with_len (slice_index locals.now 0) (length locals.now) }
-{
-    let count = locals.len();
-    if count == 0 {
-        return false;
-    }
-    (locals[count - 1] - locals[0]) as usize == count - 1
+    bits.clear_each(locals);
 }
 
 /// Gives each proxy of a list, which rises, the identity: all at once where its numbers stand in a row.

@@ -1,4 +1,4 @@
-use Rattle.std.proofs.Common.{◌≡◌, ℕ, ◌<◌, ◌&&◌, cond, get_or, length}
+use Rattle.std.proofs.Common.{◌≡◌, ℕ, ◌&&◌, cond, get_or, length}
 use Rattle.std.specs.Prelude.{nat_le, nat_lt}
 use Rattle.gluon_reduce.proofs.resetting.set_back_row.Given as goal
 

@@ -1,7 +1,7 @@
 use Rattle.std.proofs.Common.{◌<◌, length, arith}
 use Rattle.std.proofs.lemmas.Bool.{eqb-true}
-use Rattle.gluon_reduce.proofs.Runs.{first_last, row_of}
-use Rattle.gluon_reduce.proofs.resetting.is_run.Goals as goal
+use Rattle.field_encodings.proofs.Runs.{first_last, row_of}
+use Rattle.field_encodings.proofs.rows.is_run.Goals as goal
 
 pub overflow_sub-result : goal.overflow_sub-result
 overflow_sub-result c = omega arith
