@@ -2,7 +2,7 @@
 use Rattle.std.proofs.Common.{◌≡◌, ℕ, suc, ◌+◌, ◌-◌, ◌<◌, ◌≤◌, List, [], ◌∷◌, length, drop, get_or, refl, sym, ap, subst, ◌∙◌, ⊎_elim, arith}
 use Rattle.std.proofs.lemmas.Bool.{cases_lt}
 use Rattle.std.proofs.lemmas.List.{drop_more, drop_all, drop-drop}
-use Rattle.gr_reader.specs.File.{last_entry, sources}
+use Rattle.edge_columns.specs.Columns.{last_entry, sources}
 use Rattle.list_laws.specs.Rising.{NeverFalls}
 use Rattle.gr_reader.specs.EdgeLists.{IsCursor}
 

@@ -1,9 +1,11 @@
 -- What the destinations that came say of the edges.
 use Rattle.std.proofs.Common.{◌≡◌, ℕ, ◌+◌, List, [], ◌++◌, length, drop, None, refl, sym, ap, ◌∙◌, arith, length-append}
 use Rattle.graph_model.specs.declared.edge.Edge.{Edge}
-use Rattle.gr_reader.specs.File.{destination_fault, sources, plain_edges}
+use Rattle.edge_columns.specs.Columns.{sources, plain_edges}
+use Rattle.gr_reader.specs.File.{destination_fault}
 use Rattle.gr_reader.specs.EdgeLists.{TookDestinations}
-use Rattle.gr_reader.proofs.EdgeLaws.{destination_fault-append, plain_edges-none, plain_edges-append}
+use Rattle.edge_columns.proofs.EdgeLaws.{plain_edges-none, plain_edges-append}
+use Rattle.gr_reader.proofs.EdgeLaws.{destination_fault-append}
 
 -- nothing came yet
 pub TookDestinations-none : (nodes : ℕ) (ends : List ℕ) → TookDestinations nodes ends [] []

@@ -1,11 +1,11 @@
--- Laws of destinations and of edges that are made of lists.
-use Rattle.std.proofs.Common.{◌≡◌, ℕ, suc, ◌+◌, ◌<◌, ◌≤◌, true, false, List, [], ◌∷◌, ◌++◌, length, drop, None, Some, ltb, refl, sym, ap, ◌∙◌, ⊎_elim, arith, add-zero}
+-- Laws of destinations that are nodes or not.
+use Rattle.std.proofs.Common.{◌≡◌, ℕ, suc, ◌+◌, ◌<◌, ◌≤◌, true, false, List, [], ◌∷◌, ◌++◌, length, All, None, Some, ltb, refl, sym, ap, ◌∙◌, ⊎_elim, arith, add-zero}
 use Rattle.std.proofs.lemmas.Bool.{cases_lt}
 use Rattle.std.proofs.lemmas.Bool.Decides.{nat_tests}
-use Rattle.graph_model.specs.declared.edge.Edge.{Edge}
+use Rattle.std.proofs.lemmas.List.Elements.{All-nil, All-cons}
 use Rattle.gr_reader.specs.declared.fault.GrFault.{GrFault}
 use Rattle.gr_reader.specs.declared.fault.GrFault.TheVariants.{Destination}
-use Rattle.gr_reader.specs.File.{destination_fault, plain_edges}
+use Rattle.gr_reader.specs.File.{destination_fault}
 
 -- a destination that is a node
 pub destination_fault-step : (nodes place destination : ℕ) (destinations : List ℕ) → destination < nodes → destination_fault nodes place (destination ∷ destinations) ≡ destination_fault nodes (place + 1) destinations
@@ -35,13 +35,10 @@ destination_fault-front nodes place (x ∷ xs) ys found some = ⊎_elim
     (λ (outside : nodes ≤ x). destination_fault-here nodes place x (xs ++ ys) outside ∙ sym (destination_fault-here nodes place x xs outside) ∙ some)
     (cases_lt x nodes)
 
--- no destination gives no edge
-pub plain_edges-none : (sources : List ℕ) → plain_edges sources [] ≡ []
-plain_edges-none [] = refl
-plain_edges-none (source ∷ sources) = refl
-
--- the destinations of two parts
-pub plain_edges-append : (sources xs ys : List ℕ) → plain_edges sources (xs ++ ys) ≡ plain_edges sources xs ++ plain_edges (drop (length (plain_edges sources xs)) sources) ys
-plain_edges-append [] xs ys = refl
-plain_edges-append (source ∷ sources) [] ys = refl
-plain_edges-append (source ∷ sources) (x ∷ xs) ys = ap (λ (l : List Edge). record { src = source; dst = x; weight = 1 } ∷ l) (plain_edges-append sources xs ys)
+-- where none is found, each destination is a node
+pub destination_fault-clear : (nodes place : ℕ) (destinations : List ℕ) → destination_fault nodes place destinations ≡ None → All (λ d. d < nodes) destinations
+destination_fault-clear nodes place [] clear = All-nil (λ d. d < nodes)
+destination_fault-clear nodes place (d ∷ ds) clear = ⊎_elim
+    (λ (here : d < nodes). All-cons (λ n. n < nodes) d ds here (destination_fault-clear nodes (place + 1) ds (sym (destination_fault-step nodes place d ds here) ∙ clear)))
+    (λ (outside : nodes ≤ d). absurd (let e = destination_fault-here nodes place d ds outside in cc))
+    (cases_lt d nodes)

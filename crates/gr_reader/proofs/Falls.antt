@@ -5,7 +5,8 @@ use Rattle.std.proofs.lemmas.Bool.Decides.{nat_tests}
 use Rattle.list_laws.specs.Rising.{NeverFalls}
 use Rattle.gr_reader.specs.declared.fault.GrFault.{GrFault}
 use Rattle.gr_reader.specs.declared.fault.GrFault.TheVariants.{IndexFalls}
-use Rattle.gr_reader.specs.File.{entry_fault, last_entry}
+use Rattle.edge_columns.specs.Columns.{last_entry}
+use Rattle.gr_reader.specs.File.{entry_fault}
 
 -- an entry that does not fall
 pub entry_fault-step : (place before entry : ℕ) (entries : List ℕ) → before ≤ entry → entry_fault place before (entry ∷ entries) ≡ entry_fault (place + 1) entry entries
@@ -14,11 +15,6 @@ entry_fault-step place before entry entries rises = let test : ltb entry before 
 -- an entry that falls
 pub entry_fault-here : (place before entry : ℕ) (entries : List ℕ) → entry < before → entry_fault place before (entry ∷ entries) ≡ Some (IndexFalls place)
 entry_fault-here place before entry entries falls = let test : ltb entry before ≡ true = grind (arith, nat_tests) in rw test refl
-
--- the last of two lists
-pub last_entry-append : (before : ℕ) (xs ys : List ℕ) → last_entry before (xs ++ ys) ≡ last_entry (last_entry before xs) ys
-last_entry-append before [] ys = refl
-last_entry-append before (x ∷ xs) ys = last_entry-append x xs ys
 
 -- none falls in the first part, so the first that falls is in the second
 pub entry_fault-append : (place before : ℕ) (xs ys : List ℕ) → entry_fault place before xs ≡ None → entry_fault place before (xs ++ ys) ≡ entry_fault (place + length xs) (last_entry before xs) ys

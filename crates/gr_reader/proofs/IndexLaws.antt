@@ -6,10 +6,12 @@ use Rattle.gr_reader.specs.declared.section.Section.TheVariants as section
 use Rattle.gr_reader.specs.declared.fault.GrFault.{GrFault}
 use Rattle.gr_reader.specs.declared.fault.GrFault.TheVariants.{IndexEnds}
 use Rattle.gr_reader.specs.Cause.{cause_of}
-use Rattle.gr_reader.specs.File.{entry_fault, last_entry, section_at, index_at}
+use Rattle.edge_columns.specs.Columns.{last_entry}
+use Rattle.gr_reader.specs.File.{entry_fault, section_at, index_at}
 use Rattle.gr_reader.specs.Sections.{Came, Broke, TookIndex}
 use Rattle.gr_reader.proofs.CauseLaws.{IfBytes-map}
-use Rattle.gr_reader.proofs.Falls.{last_entry-append, entry_fault-append}
+use Rattle.edge_columns.proofs.SourceLaws.{last_entry-append}
+use Rattle.gr_reader.proofs.Falls.{entry_fault-append}
 
 -- a fault of a piece is one of all that came
 pub entry_fault-more : (entries : List ℕ) (count before : ℕ) (numbers more : List ℕ) → TookIndex entries before numbers → count ≡ length entries → entry_fault 0 0 (numbers ++ more) ≡ entry_fault count before more

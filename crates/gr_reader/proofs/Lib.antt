@@ -9,5 +9,6 @@ pub mod EdgeLaws
 pub mod DestinationLaws
 pub mod GraphLaws
 pub mod WeightLaws
+pub mod ColumnLaws
 pub mod HeadLaws
 pub mod RestLaws

@@ -6,7 +6,8 @@ use Rattle.graph_model.specs.Graph.{Graph}
 use Rattle.gr_reader.specs.declared.head.Head.{Head}
 use Rattle.gr_reader.specs.declared.fault.GrFault.{GrFault}
 use Rattle.gr_reader.specs.Cause.{cause_of}
-use Rattle.gr_reader.specs.File.{head_at, index_at, destinations_at, padding_at, weights_at, sources, plain_edges, weighed, rest_at, file_at}
+use Rattle.edge_columns.specs.Columns.{sources, plain_edges, weighed}
+use Rattle.gr_reader.specs.File.{head_at, index_at, destinations_at, padding_at, weights_at, rest_at, file_at}
 use Rattle.gr_reader.specs.Reading.{Refuses, Means}
 use Rattle.gr_reader.specs.Reach.{TakesAtMost, reach, head_reach, file_reach}
 use Rattle.gr_reader.specs.Sections.{Came, Broke}

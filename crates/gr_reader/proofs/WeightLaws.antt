@@ -1,28 +1,16 @@
 -- What the weights that came say of the edges.
-use Rattle.std.proofs.Common.{◌≡◌, ℕ, suc, ◌+◌, ◌-◌, ◌^◌, ◌<◌, ◌≤◌, All, List, [], ◌∷◌, ◌++◌, length, take, drop, get_or, set, refl, sym, ap, ◌∙◌, arith, length-append, length-drop}
+use Rattle.std.proofs.Common.{◌≡◌, ℕ, ◌+◌, ◌-◌, ◌^◌, ◌<◌, ◌≤◌, All, List, [], ◌∷◌, ◌++◌, length, take, drop, get_or, set, refl, sym, ap, ◌∙◌, arith, length-append, length-drop}
 use Rattle.std.proofs.lemmas.List.{take_all, drop_all, drop_more, take_more_set, drop-set-lt, append-nil, map-append, length-map, take-append-drop, append_assoc, take_rest, length-take-le}
 use Rattle.std.proofs.lemmas.List.Elements.{All-nil, All-append}
 use borrow.Rule.Slice.PartMut.{put_mid}
 use Rattle.graph_model.specs.declared.edge.Edge.{Edge}
-use Rattle.gr_reader.specs.File.{weighed}
+use Rattle.edge_columns.specs.Columns.{weighed}
+use Rattle.edge_columns.proofs.EdgeLaws.{weighed-none, weighed-append, length-weighed}
 use Rattle.gr_reader.specs.EdgeLists.{unweighed, TookWeights}
 
 -- the edge with weight 1
 abbrev pub plain : Edge → Edge
 plain edge = record { src = edge.src; dst = edge.dst; weight = 1 }
-
--- no weights change nothing
-pub weighed-none : (edges : List Edge) → weighed edges [] ≡ edges
-weighed-none [] = refl
-weighed-none (edge ∷ edges) = refl
-
--- the weights of two parts
-pub weighed-append : (edges : List Edge) (xs ys : List ℕ) → length xs ≤ length edges
-    → weighed edges (xs ++ ys) ≡ take (length xs) (weighed edges xs) ++ weighed (drop (length xs) (weighed edges xs)) ys
-weighed-append [] [] ys fits = refl
-weighed-append [] (x ∷ xs) ys fits = absurd (omega arith)
-weighed-append (edge ∷ edges) [] ys fits = refl
-weighed-append (edge ∷ edges) (x ∷ xs) ys fits = ap (λ (l : List Edge). record { src = edge.src; dst = edge.dst; weight = x } ∷ l) (weighed-append edges xs ys (omega arith))
 
 -- weights change weights alone
 pub unweighed-weighed : (edges : List Edge) (weights : List ℕ) → unweighed (weighed edges weights) ≡ unweighed edges
@@ -71,12 +59,6 @@ TookWeights-more edges new place numbers more took within is count same_count li
       count = omega (arith, took.count, length-append numbers more);
       light = All-append (λ weight. weight < 2 ^ 32) numbers more took.light light;
     }
-
--- weights do not change how many edges there are
-pub length-weighed : (edges : List Edge) (weights : List ℕ) → length (weighed edges weights) ≡ length edges
-length-weighed [] weights = refl
-length-weighed (edge ∷ edges) [] = refl
-length-weighed (edge ∷ edges) (weight ∷ weights) = ap suc (length-weighed edges weights)
 
 -- a vector whose last edges got the weights of a piece as a slice
 pub weights_slice : (items lent new : List Edge) (count place : ℕ) (weights : List ℕ) → lent ≡ items → count ≡ length items → place ≤ length items

@@ -3,7 +3,8 @@ use Rattle.std.specs.Prelude.{◌≡◌, ℕ, ◌≤◌, ◌<◌, ◌^◌, List,
 use Rattle.list_laws.specs.Rising.{NeverFalls}
 use Rattle.graph_model.specs.declared.edge.Edge.{Edge}
 use Rattle.graph_model.specs.Graph.{most_nodes, most_edges}
-use Rattle.gr_reader.specs.File.{last_entry, destination_fault, sources, plain_edges, weighed}
+use Rattle.edge_columns.specs.Columns.{last_entry, sources, plain_edges, weighed}
+use Rattle.gr_reader.specs.File.{destination_fault}
 
 -- the edges with weight 1
 abbrev pub unweighed : List Edge → List Edge

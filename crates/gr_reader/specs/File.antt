@@ -3,10 +3,10 @@
 -- The file has a head, an index with the end of each node's range of edges, the destinations of the edges,
 -- and, where an edge has 4 bytes of weight, padding up to a multiple of 8 and the weights. Each section is
 -- looked at as a whole. What follows the last field is not looked at.
-use Rattle.std.specs.Prelude.{ℕ, ◌+◌, ◌-◌, ◌*◌, ◌%◌, Bool, true, false, ◌==◌, ◌||◌, ◌&&◌, nat_lt, nat_le, if◌then◌else◌, List, [], ◌∷◌, ◌++◌, length, take, drop, replicate, Option, Some, None, Result, Ok, Err}
+use Rattle.std.specs.Prelude.{ℕ, ◌+◌, ◌*◌, ◌%◌, Bool, true, false, ◌==◌, ◌||◌, ◌&&◌, nat_lt, nat_le, if◌then◌else◌, List, [], ◌∷◌, length, take, drop, Option, Some, None, Result, Ok, Err}
 use Rattle.list_laws.specs.LittleEndian.{le_number, whole_numbers}
-use Rattle.graph_model.specs.declared.edge.Edge.{Edge}
 use Rattle.graph_model.specs.Graph.{Graph, most_nodes, most_edges}
+use Rattle.edge_columns.specs.Columns.{last_entry, sources, plain_edges, weighed}
 use Rattle.gr_reader.specs.declared.head.Head.{Head}
 use Rattle.gr_reader.specs.declared.section.Section.{Section}
 use Rattle.gr_reader.specs.declared.section.Section.TheVariants as section
@@ -60,11 +60,6 @@ abbrev pub entry_fault : (place before : ℕ) → List ℕ → Option GrFault
 entry_fault place before [] = None
 entry_fault place before (entry ∷ entries) = if nat_lt entry before then Some (IndexFalls place) else entry_fault (place + 1) entry entries
 
--- the last entry, and `before` where there is none
-abbrev pub last_entry : ℕ → List ℕ → ℕ
-last_entry before [] = before
-last_entry before (entry ∷ entries) = last_entry entry entries
-
 -- The index: an entry of 8 bytes for each node. No entry is below the one before, and the last is the number of edges.
 unfoldable pub index_at : Head → List ℕ → Result (List ℕ × List ℕ) GrFault
 index_at head bytes = do
@@ -97,22 +92,6 @@ weight_bytes head = if head.edge_size == 0 then 0 else 4 * head.edges
 -- The weights: 4 bytes for each edge, or none.
 abbrev pub weights_at : Head → List ℕ → Result (List ℕ × List ℕ) GrFault
 weights_at head bytes = section_at section.Weights 4 (weight_bytes head) no_fault bytes
-
--- The source of each edge: the first node has the edges up to its entry, each other from the entry before it up to its own.
-abbrev pub sources : ℕ → ℕ → List ℕ → List ℕ
-sources node before [] = []
-sources node before (entry ∷ entries) = replicate (entry - before) node ++ sources (node + 1) entry entries
-
--- the edges of these sources and destinations, each with weight 1
-abbrev pub plain_edges : List ℕ → List ℕ → List Edge
-plain_edges (source ∷ sources) (destination ∷ destinations) =
-    record { src = source; dst = destination; weight = 1 } ∷ plain_edges sources destinations
-plain_edges _ _ = []
-
--- the edges with these weights, as far as there are some
-abbrev pub weighed : List Edge → List ℕ → List Edge
-weighed (edge ∷ edges) (weight ∷ weights) = record { src = edge.src; dst = edge.dst; weight = weight } ∷ weighed edges weights
-weighed edges _ = edges
 
 -- what follows the head: the graph, and the bytes after it
 unfoldable pub rest_at : Head → List ℕ → Result (Graph × List ℕ) GrFault

@@ -4,3 +4,4 @@ pub mod Reading
 pub mod Reach
 pub mod Sections
 pub mod EdgeLists
+pub mod ColumnLists

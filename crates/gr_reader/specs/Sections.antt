@@ -3,7 +3,8 @@ use Rattle.std.specs.Prelude.{◌≡◌, ℕ, ◌⊎◌, List, [], ◌++◌, Opt
 use Rattle.graph_model.specs.declared.edge.Edge.{Edge}
 use Rattle.gr_reader.specs.declared.fault.GrFault.{GrFault}
 use Rattle.gr_reader.specs.declared.fault.GrFault.TheVariants.{Memory}
-use Rattle.gr_reader.specs.File.{entry_fault, last_entry}
+use Rattle.edge_columns.specs.Columns.{last_entry}
+use Rattle.gr_reader.specs.File.{entry_fault}
 use Rattle.gr_reader.specs.Reading.{Refuses}
 
 -- what stays as it is while a section is taken in

@@ -7,8 +7,11 @@
 //! Where they have none, each weight is 1.
 //!
 //! A file that is not so is refused with the first thing that is wrong, from its front.
+//!
+//! What follows the head is read into a list of edges, or by column, which takes less memory.
 #![tactic(auto)]
 
+mod columns;
 mod destinations;
 mod fault;
 mod fill;
@@ -24,6 +27,7 @@ mod stage;
 mod tests;
 mod weights;
 
+pub use columns::read_columns;
 pub use fault::GrFault;
 pub use graph::{read_graph, read_rest};
 pub use head::Head;

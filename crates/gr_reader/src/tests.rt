@@ -1,6 +1,7 @@
 //! What no clause says: files whose meaning is known from outside.
 
-use super::{GrFault, GrReader, Head, Section, Stage, read_graph, read_rest};
+use super::{GrFault, GrReader, Head, Section, Stage, read_columns, read_graph, read_rest};
+use edge_columns::EdgeColumns;
 use graph_model::Edge;
 use io_edge::{MemorySource, PlainSource, Source};
 use std::alloc::{AllocError, Global};
@@ -232,5 +233,64 @@ fn has_failed_behind_a_fault(rt: HostRuntime) -> Result<(), Fail> {
         Some(GrFault::IndexFalls(1))
     );
     assert_eq!(rt; reader.stage(), Stage::Failed);
+    Ok(())
+}
+
+/// The graph of a file, by column.
+fn read_by_column<S: Source>(alloc: Global, source: &mut S) -> Result<EdgeColumns, GrFault> {
+    let mut reader = GrReader::new(alloc)?;
+    reader.read_head(source)?;
+    read_columns(alloc, &mut reader, source)
+}
+
+#[test]
+fn reads_the_same_graph_by_column(rt: HostRuntime) -> Result<(), Fail> {
+    // Edges from 0 to 1 and 2, none from 1, and one from 2 to 0.
+    let cases: [(u64, &[u32], [u32; 3]); 2] = [
+        (0, &[1, 2, 0], [1, 1, 1]),
+        (4, &[1, 2, 0, 0xffff_ffff, 7, 0, u32::MAX], [7, 0, u32::MAX]),
+    ];
+    for (edge_size, words, weights) in cases {
+        let bytes = file_of(rt.alloc(), [1, edge_size, 3, 3], &[2, 2, 3], words)?;
+        let columns = read_by_column(rt.alloc(), &mut PlainSource::new(bytes.clone()?))?;
+        assert_eq!(rt; columns.nodes(), 3);
+        assert_eq!(rt; columns.starts(), [0, 2, 2, 3].as_slice());
+        assert_eq!(rt; columns.destinations(), [1, 2, 0].as_slice());
+        assert_eq!(rt; columns.weights(), weights.as_slice());
+        let [first, second, third] = weights;
+        let edges = [(0, 1, first), (0, 2, second), (2, 0, third)].map(|(src, dst, weight)| Edge {
+            src,
+            dst,
+            weight,
+        });
+        let graph = read_graph(rt.alloc(), &mut PlainSource::new(bytes))?;
+        assert_eq!(rt; graph.edges(), edges.as_slice());
+    }
+    Ok(())
+}
+
+#[test]
+fn tells_the_same_fault_of_a_cut_file_by_column(rt: HostRuntime) -> Result<(), Fail> {
+    for length in 0..60 {
+        let mut bytes = weighted_file(rt.alloc())?;
+        bytes.truncate(length);
+        let want = read_graph(rt.alloc(), &mut PlainSource::new(bytes.clone()?)).err();
+        let fault = read_by_column(rt.alloc(), &mut PlainSource::new(bytes)).err();
+        assert!(rt; fault.is_some());
+        assert_eq!(rt; fault, want);
+    }
+    Ok(())
+}
+
+#[test]
+fn passes_on_each_read_that_fails_by_column(rt: HostRuntime) -> Result<(), Fail> {
+    for call in 0..12 {
+        let mut fails = Vec::new(rt.alloc());
+        fails.push(call)?;
+        let mut source = MemorySource::new(weighted_file(rt.alloc())?, 7, fails);
+        let fault = read_by_column(rt.alloc(), &mut source).err();
+        let want = if call < 11 { Some(GrFault::Read) } else { None };
+        assert_eq!(rt; fault, want);
+    }
     Ok(())
 }

@@ -3,7 +3,8 @@ ghost use Rattle.std.specs.Prelude.{◌≡◌, ◌-◌, ◌*◌, ◌/◌, ◌^�
 ghost use Rattle.list_laws.specs.LittleEndian.{whole_numbers};
 ghost use Rattle.gr_reader.specs.declared.section.Section.TheVariants as part;
 ghost use Rattle.gr_reader.specs.Cause.{cause_of, IsOfSection};
-ghost use Rattle.gr_reader.specs.File.{no_fault, weight_bytes, weights_at, weighed};
+ghost use Rattle.edge_columns.specs.Columns.{weighed};
+ghost use Rattle.gr_reader.specs.File.{no_fault, weight_bytes, weights_at};
 ghost use Rattle.gr_reader.specs.Reading.{IsHead, Counts};
 ghost use Rattle.gr_reader.specs.Reach.{TakesAtMost};
 ghost use Rattle.gr_reader.specs.Sections.{Came, Broke};
@@ -63,7 +64,7 @@ fn set_weights(edges: &mut [Edge], piece: &[u8])
 }
 
 /// The bytes of the weights: 4 for each edge, where edges have weights.
-fn weight_length(head: Head) -> usize
+pub(crate) fn weight_length(head: Head) -> usize
     ensures bytes { result ≡ weight_bytes head }
     ensures most { result ≤ 4 * head.edges }
 {

@@ -16,10 +16,10 @@ use Rattle.gr_reader.specs.declared.head.Head.{Head}
 use Rattle.gr_reader.specs.declared.section.Section.{Section}
 use Rattle.gr_reader.specs.declared.section.Section.TheVariants as section
 use Rattle.gr_reader.specs.declared.fault.GrFault.{GrFault}
-use Rattle.gr_reader.specs.File.{long_at, head_at, section_at, no_fault, index_at, destination_fault, destinations_at, padding, padding_at, weights_at, rest_at, file_at, entry_fault, last_entry, sources, plain_edges, weighed}
+use Rattle.edge_columns.specs.Columns.{last_entry, sources, plain_edges, weighed}
+use Rattle.gr_reader.specs.File.{long_at, head_at, section_at, no_fault, index_at, destination_fault, destinations_at, padding, padding_at, weights_at, rest_at, file_at, entry_fault}
 use Rattle.gr_reader.proofs.SectionLaws.{section_at-whole}
-use Rattle.gr_reader.proofs.WeightLaws.{weighed-none}
-use Rattle.gr_reader.proofs.GraphLaws.{source}
+use Rattle.edge_columns.proofs.EdgeLaws.{source, weighed-none}
 use Rattle.gr_writer.specs.File.{head_of, end_of, index_of, destinations_of, padding_of, weights_of, file_of}
 use Rattle.gr_writer.specs.ReadAgain.{IsReadAgain}
 use Rattle.gr_writer.proofs.Ends.{end_of-next, end_of-within, end_of-cons_yes}

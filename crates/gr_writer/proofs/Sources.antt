@@ -9,8 +9,9 @@ use Rattle.list_laws.proofs.Rising.{NeverFalls-lower}
 use Rattle.list_laws.proofs.Ranges.{map-range_same}
 use Rattle.graph_model.specs.declared.edge.Edge.{Edge}
 use Rattle.graph_model.specs.Graph.{IsBySource}
-use Rattle.gr_reader.specs.File.{sources, entry_fault, last_entry}
-use Rattle.gr_reader.proofs.GraphLaws.{source}
+use Rattle.edge_columns.specs.Columns.{sources, last_entry}
+use Rattle.gr_reader.specs.File.{entry_fault}
+use Rattle.edge_columns.proofs.EdgeLaws.{source}
 use Rattle.gr_writer.specs.File.{end_of}
 use Rattle.gr_writer.proofs.Ends.{IsBySource-tail, IsBySource-head, end_of-cons_yes, end_of-cons_no}
 

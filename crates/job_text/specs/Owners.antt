@@ -5,7 +5,7 @@ use Rattle.graph_model.specs.declared.edge.Edge.{Edge}
 use Rattle.graph_model.specs.Graph.{Graph}
 use Rattle.cusp_rules.specs.Formulas.{masters_of}
 use Rattle.edge_owner.specs.declared.rules.Rules.{Rules}
-use Rattle.share_plan.specs.Starts.{starts_of}
+use Rattle.edge_columns.specs.Starts.{starts_of}
 use Rattle.share_plan.specs.Owners.{owner_at}
 use Rattle.share_plan.specs.Plan.{Plan, owner_by}
 use Rattle.job_text.specs.Numbered.{numbered}

@@ -14,8 +14,8 @@ use Rattle.graph_model.specs.Graph.{Graph, IsGraph}
 use Rattle.graph_division.specs.Shares.{Share}
 use Rattle.cusp_rules.specs.Assignment.{Assignment, IsAssignment}
 use Rattle.share_plan.specs.Plan.{Plan}
-use Rattle.share_plan.specs.Starts.{starts_of}
-use Rattle.share_plan.proofs.Counts.{count_le, le_count}
+use Rattle.edge_columns.specs.Starts.{starts_of}
+use Rattle.edge_columns.proofs.Counts.{count_le, le_count}
 use Rattle.share_plan.proofs.StartsLaws.{start_at}
 use Rattle.share_plan.proofs.Partitions.{rises-IsBySource}
 use Rattle.partition_build.specs.Rooms.{share_by, edges_from, edges_below, shares_by_source}

@@ -1,4 +1,3 @@
-pub mod Counts
 pub mod StartsLaws
 pub mod SideBySide
 pub mod OwnersLaws

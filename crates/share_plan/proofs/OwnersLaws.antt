@@ -10,7 +10,7 @@ use Rattle.cusp_rules.proofs.Formed.{IsAssignment-masters_of}
 use Rattle.edge_owner.specs.declared.rules.Rules.{Rules}
 use Rattle.edge_owner.specs.Owner.{owner_of}
 use Rattle.edge_owner.proofs.Places.{owner-below}
-use Rattle.share_plan.specs.Starts.{starts_of, outdegree_of}
+use Rattle.edge_columns.specs.Starts.{starts_of, outdegree_of}
 use Rattle.share_plan.specs.Owners.{master_at, owner_at}
 use Rattle.share_plan.specs.Laws.{PlansTellOwners, EdgesHaveOwners}
 use Rattle.share_plan.proofs.StartsLaws.{length-starts_of, IsStarts-starts_of, outdegree-starts}

@@ -8,7 +8,7 @@ use Rattle.std.proofs.lemmas.Option.{slice_get_within}
 use Rattle.list_laws.proofs.Places.{slice_get_once, All-at}
 use Rattle.graph_model.specs.declared.edge.Edge.{Edge}
 use Rattle.graph_model.specs.Graph.{Graph, IsGraph, IsBySource, IsWithin}
-use Rattle.share_plan.proofs.Counts.{count_le, le_count}
+use Rattle.edge_columns.proofs.Counts.{count_le, le_count}
 use Rattle.share_plan.proofs.StartsLaws.{below, below_rises}
 
 module _ {X : Type 0} (p : X → Bool) where

@@ -10,8 +10,8 @@ use Rattle.list_laws.proofs.Places.{slice_get_once}
 use Rattle.graph_model.specs.declared.edge.Edge.{Edge}
 use Rattle.graph_model.specs.Graph.{Graph, IsGraph, IsBySource}
 use Rattle.cusp_rules.specs.Formulas.{IsStarts, vertices_of}
-use Rattle.share_plan.specs.Starts.{starts_of, outdegree_of}
-use Rattle.share_plan.proofs.Counts.{count_none, count_front, count_split, count_more}
+use Rattle.edge_columns.specs.Starts.{starts_of, outdegree_of}
+use Rattle.edge_columns.proofs.Counts.{count_none, count_front, count_split, count_more}
 
 -- how many edges have a lower source
 abbrev pub below : List Edge → ℕ → ℕ

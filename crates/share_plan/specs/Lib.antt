@@ -1,4 +1,3 @@
-pub mod Starts
 pub mod Owners
 pub mod Plan
 pub mod Laws

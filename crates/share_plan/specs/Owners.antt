@@ -7,7 +7,7 @@ use Rattle.cusp_rules.specs.Formulas.{master_of, masters_of}
 use Rattle.edge_owner.specs.declared.rules.Rules.{Rules}
 use Rattle.edge_owner.specs.Owner.{owner_of}
 use Rattle.graph_division.specs.Shares.{Share}
-use Rattle.share_plan.specs.Starts.{starts_of, outdegree_of}
+use Rattle.edge_columns.specs.Starts.{starts_of, outdegree_of}
 
 -- the master of a vertex
 abbrev pub master_at : Rules → (hosts : ℕ) → Graph → (v : ℕ) → ℕ

@@ -7,7 +7,7 @@ use Rattle.edge_owner.specs.declared.owner_rule.OwnerRule.{OwnerRule}
 use Rattle.edge_owner.specs.declared.owner_rule.OwnerRule.TheVariants.{Source, Dest, Hybrid, Cartesian}
 use Rattle.edge_owner.specs.declared.rules.Rules.{Rules}
 use Rattle.edge_owner.specs.Owner.{owner_of}
-use Rattle.share_plan.specs.Starts.{starts_of}
+use Rattle.edge_columns.specs.Starts.{starts_of}
 
 -- the rule for owners, the number of hosts, the master of each vertex, and where each vertex's edges start
 pub record Plan : Type 0 where

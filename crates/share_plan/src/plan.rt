@@ -37,7 +37,7 @@ impl SharePlan {
     ghost use Rattle.share_plan.specs.Owners.{owner_at};
     ghost use Rattle.cusp_rules.specs.Hosts.{IsHostCount};
     ghost use Rattle.share_plan.specs.Plan.{Plan, owner_by, plan_of, sources_own};
-    ghost use Rattle.share_plan.specs.Starts.{starts_of};
+    ghost use Rattle.edge_columns.specs.Starts.{starts_of};
 
     /// The plan of a graph by these rules, for 1 to 64 hosts. It takes time in proportion to vertices and
     /// edges together.

@@ -1,7 +1,7 @@
 //! Where the out-edges of each vertex start.
 ghost use Rattle.std.specs.Prelude.{◌≡◌, IfOk};
 ghost use Rattle.graph_model.specs.Graph.{IsGraph};
-ghost use Rattle.share_plan.specs.Starts.{starts_of};
+ghost use Rattle.edge_columns.specs.Starts.{starts_of};
 
 use graph_model::Edge;
 use std::alloc::{AllocError, Global};

@@ -1,6 +1,6 @@
 use Rattle.std.proofs.Common.{ap}
 use Rattle.cusp_rules.specs.Formulas.{masters_of}
-use Rattle.share_plan.specs.Starts.{starts_of}
+use Rattle.edge_columns.specs.Starts.{starts_of}
 use Rattle.share_plan.specs.Owners.{owner_at}
 use Rattle.share_plan.specs.Plan.{Plan, owner_by}
 use Rattle.job_text.proofs.OwnerLines.{lines_of-same}

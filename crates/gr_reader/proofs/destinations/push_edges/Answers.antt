@@ -4,9 +4,11 @@ use Rattle.list_laws.specs.LittleEndian.{whole_numbers}
 use Rattle.list_laws.proofs.WholeNumbers.{whole_numbers-none}
 use Rattle.graph_model.specs.declared.edge.Edge.{Edge}
 use Rattle.gr_reader.specs.declared.fault.GrFault.TheVariants.{Destination}
-use Rattle.gr_reader.specs.File.{destination_fault, sources, plain_edges}
+use Rattle.edge_columns.specs.Columns.{sources, plain_edges}
+use Rattle.gr_reader.specs.File.{destination_fault}
 use Rattle.gr_reader.proofs.Chunks.{split-4}
-use Rattle.gr_reader.proofs.EdgeLaws.{destination_fault-step, destination_fault-here, plain_edges-none}
+use Rattle.edge_columns.proofs.EdgeLaws.{plain_edges-none}
+use Rattle.gr_reader.proofs.EdgeLaws.{destination_fault-step, destination_fault-here}
 use Rattle.gr_reader.proofs.destinations.push_edges.Goals as goal
 
 pub returns-then-dst-nodes-clause-found : goal.returns-then-dst-nodes-clause-found

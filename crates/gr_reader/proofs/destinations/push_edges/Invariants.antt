@@ -1,6 +1,7 @@
 use Rattle.std.proofs.Common.{◌≡◌, ◌*◌, ◌+◌, ◌-◌, ◌/◌, ◌≤◌, ◌++◌, length, drop, vec_len}
 use Rattle.list_laws.specs.LittleEndian.{whole_numbers}
-use Rattle.gr_reader.specs.File.{destination_fault, last_entry, sources, plain_edges}
+use Rattle.edge_columns.specs.Columns.{last_entry, sources, plain_edges}
+use Rattle.gr_reader.specs.File.{destination_fault}
 use Rattle.gr_reader.specs.EdgeLists.{IsCursor}
 use Rattle.gr_reader.proofs.destinations.push_edges.Given as goal
 

@@ -4,10 +4,11 @@ use Rattle.graph_model.specs.declared.edge.Edge.{Edge}
 use Rattle.graph_model.specs.Graph.{most_edges}
 use Rattle.gr_reader.specs.declared.section.Section.TheVariants as section
 use Rattle.gr_reader.specs.Cause.{cause_of}
-use Rattle.gr_reader.specs.File.{padding, weight_bytes, sources, plain_edges, weighed}
+use Rattle.edge_columns.specs.Columns.{sources, plain_edges, weighed}
+use Rattle.gr_reader.specs.File.{padding, weight_bytes}
 use Rattle.gr_reader.proofs.CauseLaws.{ComesFromRest-from, cause_reach-section}
 use Rattle.gr_reader.proofs.TakingLaws.{TakesAtMost-then, TakesAtMost-more}
-use Rattle.gr_reader.proofs.WeightLaws.{length-weighed}
+use Rattle.edge_columns.proofs.EdgeLaws.{length-weighed}
 use Rattle.gr_reader.proofs.GraphLaws.{edges-graph}
 use Rattle.gr_reader.proofs.RestLaws.{IfSome-told, rest_broke-index, rest_broke-destinations, rest_broke-padding, rest_broke-weights, rest_came}
 use Rattle.gr_reader.proofs.graph.read_sections.Goals as goal

@@ -1,7 +1,8 @@
 use Rattle.std.proofs.Common.{◌≡◌, ℕ, List, ◌∷◌, ◌++◌, Some, vec_len, sym, ap, ◌∙◌, append_assoc, arith, inr}
 use Rattle.list_laws.specs.LittleEndian.{whole_numbers}
 use Rattle.gr_reader.specs.declared.fault.GrFault.TheVariants.{IndexFalls}
-use Rattle.gr_reader.specs.File.{entry_fault, last_entry}
+use Rattle.edge_columns.specs.Columns.{last_entry}
+use Rattle.gr_reader.specs.File.{entry_fault}
 use Rattle.gr_reader.proofs.Chunks.{split-8}
 use Rattle.gr_reader.proofs.Falls.{entry_fault-step, entry_fault-here}
 use Rattle.gr_reader.proofs.index.push_entries.Goals as goal

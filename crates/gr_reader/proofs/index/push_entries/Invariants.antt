@@ -1,7 +1,8 @@
 use Rattle.std.proofs.Common.{◌≡◌, ◌*◌, ◌-◌, ◌≤◌, ◌++◌, length, vec_len}
 use Rattle.list_laws.specs.LittleEndian.{whole_numbers}
 use Rattle.graph_model.specs.Graph.{most_nodes}
-use Rattle.gr_reader.specs.File.{entry_fault, last_entry}
+use Rattle.edge_columns.specs.Columns.{last_entry}
+use Rattle.gr_reader.specs.File.{entry_fault}
 use Rattle.gr_reader.proofs.index.push_entries.Given as goal
 
 abbrev pub invariant-loop-front : goal.invariant-loop-front

@@ -1,6 +1,6 @@
 use Rattle.std.proofs.Common.{ap, ◌∙◌, arith, inr, refl, length}
 use Rattle.std.proofs.lemmas.Result.{err_from_is_err_and}
-use Rattle.gr_reader.specs.File.{last_entry}
+use Rattle.edge_columns.specs.Columns.{last_entry}
 use Rattle.gr_reader.proofs.Falls.{entry_fault-front, NeverFalls-clear}
 use Rattle.gr_reader.proofs.IndexLaws.{index_broke, index_ends, index_came}
 use Rattle.gr_reader.proofs.index.read_index.Goals as goal

@@ -2,7 +2,8 @@ use Rattle.std.proofs.Common.{◌≡◌, ℕ, ◌<◌, ◌^◌, List, All, ap, s
 use Rattle.std.proofs.lemmas.Result.{err_from_is_err_and}
 use Rattle.graph_model.specs.declared.edge.Edge.{Edge}
 use Rattle.gr_reader.specs.declared.section.Section.TheVariants as section
-use Rattle.gr_reader.specs.File.{section_at, no_fault, weighed}
+use Rattle.edge_columns.specs.Columns.{weighed}
+use Rattle.gr_reader.specs.File.{section_at, no_fault}
 use Rattle.gr_reader.specs.Sections.{Fixed, Came}
 use Rattle.gr_reader.proofs.WeightLaws.{TookWeights-none}
 use Rattle.gr_reader.proofs.weights.read_weights.Goals as goal

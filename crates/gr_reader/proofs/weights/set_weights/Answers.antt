@@ -3,9 +3,10 @@ use Rattle.std.proofs.lemmas.List.{take-append-drop}
 use Rattle.list_laws.specs.LittleEndian.{whole_numbers}
 use Rattle.list_laws.proofs.WholeNumbers.{whole_numbers-none}
 use Rattle.graph_model.specs.declared.edge.Edge.{Edge}
-use Rattle.gr_reader.specs.File.{weighed}
+use Rattle.edge_columns.specs.Columns.{weighed}
 use Rattle.gr_reader.proofs.Chunks.{split-4}
-use Rattle.gr_reader.proofs.WeightLaws.{weigh_one, weighed-none}
+use Rattle.edge_columns.proofs.EdgeLaws.{weighed-none}
+use Rattle.gr_reader.proofs.WeightLaws.{weigh_one}
 use Rattle.gr_reader.proofs.weights.set_weights.Goals as goal
 
 pub loop-front-preserved : goal.loop-front-preserved

@@ -1,6 +1,6 @@
 use Rattle.std.proofs.Common.{◌≡◌, ◌+◌, ◌/◌, ◌++◌, length, take, drop}
 use Rattle.list_laws.specs.LittleEndian.{whole_numbers}
-use Rattle.gr_reader.specs.File.{weighed}
+use Rattle.edge_columns.specs.Columns.{weighed}
 use Rattle.gr_reader.proofs.weights.set_weights.Given as goal
 
 abbrev pub invariant-loop-front : goal.invariant-loop-front

@@ -3,7 +3,7 @@ use Rattle.std.proofs.lemmas.List.Sums.{count_by-le-length}
 use Rattle.std.specs.List.{filter}
 use Rattle.graph_model.specs.declared.edge.Edge.{Edge}
 use Rattle.graph_model.specs.Graph.{Graph}
-use Rattle.share_plan.specs.Starts.{starts_of}
+use Rattle.edge_columns.specs.Starts.{starts_of}
 use Rattle.share_plan.specs.Plan.{Plan}
 use Rattle.share_plan.proofs.StartsLaws.{below, length-starts_of, start_at}
 use Rattle.share_plan.proofs.SideBySide.{edges_from-slice}

@@ -4,7 +4,7 @@ use Rattle.graph_model.specs.declared.edge.Edge.{Edge}
 use Rattle.cusp_rules.specs.Assignment.{Assignment}
 use Rattle.cusp_rules.specs.Formulas.{IsStarts, masters_of}
 use Rattle.edge_owner.specs.declared.rules.Rules.{Rules}
-use Rattle.share_plan.specs.Starts.{starts_of}
+use Rattle.edge_columns.specs.Starts.{starts_of}
 use Rattle.share_plan.specs.Plan.{Plan, owner_by, plan_of}
 use Rattle.share_plan.proofs.StartsLaws.{length-starts_of, IsStarts-starts_of}
 use Rattle.share_plan.proofs.OwnersLaws.{length-masters, plans_tell_owners}

@@ -1,0 +1,4 @@
+pub mod Counts
+pub mod SourceLaws
+pub mod EdgeLaws
+pub mod ColumnLaws
