@@ -1,7 +1,7 @@
 //! Local graphs are made of the edges of each host, with arcs laid for one way.
 ghost use Rattle.std.specs.Prelude.{◌≡◌, ◌≤◌, length, All, IfOk, vec_len};
 ghost use Rattle.graph_model.specs.Graph.{most_nodes};
-ghost use Rattle.share_plan.specs.Starts.{starts_of};
+ghost use Rattle.edge_columns.specs.Starts.{starts_of};
 ghost use Rattle.partition_build.specs.Rooms.{IsRoom, shares_from, shares_by_source};
 
 use graph_model::{Edge, EdgeList, Way};
@@ -77,22 +77,5 @@ pub(crate) fn assemble_and_give_up(
         edges.shrink_to_fit();
     }
     graphs.reverse();
-    Ok(graphs)
-}
-
-/// The local graph of the one host there is, with all edges of the list, which is given up.
-pub(crate) fn assemble_alone(
-    alloc: Global,
-    way: Way,
-    list: EdgeList,
-    plan: &SharePlan,
-) -> Result<Vec<LocalGraph>, AllocError>
-    requires nodes { list.nodes ≡ length plan.now.masters }
-    requires alone { plan.now.hosts ≡ 1 }
-    ensures { IfOk result (λ graphs. graphs.items ≡ shares_by_source plan.now list plan.now.hosts) }
-{
-    let graph = LocalGraph::assemble_list(alloc, way, 0, plan.masters(), list)?;
-    let mut graphs = Vec::with_capacity(alloc, usize::from(graph.hosts()))?;
-    graphs.push(graph)?;
     Ok(graphs)
 }

@@ -5,6 +5,7 @@
 //! proportion to vertices, edges and hosts.
 #![tactic(auto)]
 
+mod alone;
 mod assembly;
 mod handing;
 mod partition;

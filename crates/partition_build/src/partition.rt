@@ -11,10 +11,11 @@ ghost use Rattle.share_plan.specs.Owners.{shares_of};
 ghost use Rattle.partition_build.specs.Meant.{shared, AreShared, FindsShares};
 ghost use Rattle.partition_build.specs.Rooms.{AreRooms};
 
-use crate::assembly::{assemble_alone, assemble_and_give_up, assemble_by_source, assemble_each};
+use crate::alone::build_alone;
+use crate::assembly::{assemble_and_give_up, assemble_by_source, assemble_each};
 use crate::handing::filled_rooms;
 use edge_owner::Rules;
-use gr_reader::{GrFault, GrReader, read_rest};
+use gr_reader::{GrFault, GrReader, read_columns, read_rest};
 use graph_model::{Edge, EdgeList, Way};
 use io_edge::Source;
 use proxy_graph::LocalGraph;
@@ -59,11 +60,7 @@ fn build_whole(
     let nodes = list.nodes();
     let plan = SharePlan::new(alloc, rules, hosts, &list)?;
     if plan.sources_own() {
-        if hosts == 1 {
-            assemble_alone(alloc, way, list, &plan)
-        } else {
-            assemble_and_give_up(alloc, way, list, &plan)
-        }
+        assemble_and_give_up(alloc, way, list, &plan)
     } else {
         let rooms = emptied_into_rooms(alloc, list, &plan)?;
         assemble_each(alloc, way, nodes, &plan, rooms)
@@ -120,7 +117,8 @@ pub fn build<S: Source>(
 }
 
 /// The same, where arcs are laid for one way: a run that follows edges in this way finds the arcs of a proxy
-/// side by side, and memory is taken for no others.
+/// side by side, and memory is taken for no others. Where there is one host, the graph is read by column, and
+/// its columns are kept.
 pub fn build_for<S: Source>(
     alloc: Global,
     reader: &mut GrReader,
@@ -154,6 +152,11 @@ pub fn build_for<S: Source>(
     ensures taken { TakesAtMost (reach reader.old.head result) (S.left source.old) (S.left source.new) }
     ensures counts { Counts result (S.faults source.old) (S.faults source.new) }
 {
+    if hosts == 1 {
+        let columns = read_columns(alloc, reader, source)?;
+        let _facts = columns.nodes();
+        return Ok(build_alone(alloc, way, columns, rules)?);
+    }
     let list = read_rest(alloc, reader, source)?;
     let _facts = list.nodes();
     Ok(build_whole(alloc, way, list, rules, hosts)?)

@@ -14,3 +14,4 @@ pub mod Assembled
 pub mod SurveySteps
 pub mod HeadSets
 pub mod InFileOrder
+pub mod LoneHost

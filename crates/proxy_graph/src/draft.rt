@@ -10,7 +10,7 @@ use crate::file_order::by_source;
 use crate::numbering::Numbering;
 use crate::survey::surveyed;
 use cusp_rules::Masters;
-use graph_model::{Edge, EdgeList};
+use graph_model::Edge;
 use std::alloc::{AllocError, Global};
 use update_bits::UpdateBits;
 
@@ -86,19 +86,5 @@ impl Draft {
             mirrors,
             columns,
         })
-    }
-
-    /// The draft of a host's local graph with all edges of a list, which is given up.
-    pub(crate) fn of_list(
-        alloc: Global,
-        host: u16,
-        masters: &Masters,
-        list: EdgeList,
-    ) -> Result<Draft, AllocError>
-        requires host { host < masters.now.hosts }
-        requires nodes { list.nodes ≡ length masters.now.masters }
-        ensures { IfOk result (λ draft. IsDraftOf (record { host = host; hosts = masters.now.hosts; masters = masters.now.masters; edges = list.edges }) draft) }
-    {
-        Draft::new(alloc, host, masters, list.nodes(), list.edges())
     }
 }

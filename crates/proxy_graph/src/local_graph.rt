@@ -18,7 +18,8 @@ use crate::in_arcs::InArcs;
 use crate::run::Run;
 use crate::sorting::by_tail;
 use cusp_rules::Masters;
-use graph_model::{Edge, EdgeList, Way};
+use edge_columns::EdgeColumns;
+use graph_model::{Edge, Way};
 use std::alloc::{AllocError, Global};
 use std::marker::Model;
 
@@ -95,22 +96,37 @@ impl LocalGraph {
         LocalGraph::of_draft(alloc, way, draft)
     }
 
-    /// The local graph of a host, which is below the number of hosts, with all edges of this list, whose
-    /// nodes are the vertices that have masters, laid for this way. The list is given up as soon as its edges
-    /// are written down by column, before they are laid by their ends.
-    pub fn assemble_list(
+    /// The local graph of the one host there is, with all edges of a graph whose nodes are the vertices that
+    /// have masters, laid for this way. Each vertex is a master, and its local number is its own, so the
+    /// columns are kept as they stand.
+    pub fn of_columns(
         alloc: Global,
         way: Way,
-        host: u16,
         masters: &Masters,
-        list: EdgeList,
+        columns: EdgeColumns,
     ) -> Result<LocalGraph, AllocError>
-        requires host { host < masters.now.hosts }
-        requires nodes { list.nodes ≡ length masters.now.masters }
-        ensures { IfOk result (λ graph. graph ≡ record { host = host; hosts = masters.now.hosts; masters = masters.now.masters; edges = list.edges }) }
+        requires alone { masters.now.hosts ≡ 1 }
+        requires nodes { columns.nodes ≡ length masters.now.masters }
+        ensures { IfOk result (λ graph. graph ≡ record { host = 0; hosts = masters.now.hosts; masters = masters.now.masters; edges = columns.edges }) }
     {
-        let draft = Draft::of_list(alloc, host, masters, list)?;
-        LocalGraph::of_draft(alloc, way, draft)
+        let nodes = columns.nodes();
+        let masters = masters.try_clone(alloc)?;
+        let back = InArcs::of_columns(alloc, way, &columns)?;
+        let (starts, heads, weights) = columns.into_parts();
+        Ok(LocalGraph {
+            host: 0,
+            nodes,
+            masters,
+            first: 0,
+            count: nodes,
+            mirrors: Vec::new(alloc),
+            out: Arcs {
+                starts,
+                heads,
+                weights,
+            },
+            back,
+        })
     }
 
     /// The local graph that this is a draft of, whose arcs are laid for this way.

@@ -6,7 +6,8 @@ ghost use Rattle.graph_division.specs.Shares.{nodes_of};
 
 use crate::LocalGraph;
 use cusp_rules::{MasterRule, Masters};
-use graph_model::{Edge, EdgeList, Way};
+use edge_columns::EdgeColumns;
+use graph_model::{Edge, Way};
 use std::alloc::{AllocError, Global};
 use std::process::Abort;
 use std::test::Fail;
@@ -52,23 +53,18 @@ fn assembled(
     Ok(LocalGraph::assemble_for(alloc, laid, host, &masters, nodes, edges)?)
 }
 
-/// The same of a list with the edge from 0 to 1 of weight 7, where these are the starts of two vertices.
-fn assembled_list(
-    rt: &impl Abort,
-    alloc: Global,
-    host: u16,
-    starts: &[u32],
-) -> Result<LocalGraph, Fail> {
-    assert!(rt; host < 2 && starts.len() == 3);
+/// The local graph of three edges, from 0 to 1, from 1 to 0 and from 1 to itself, of weights 7, 8 and 9, on the
+/// one host there is.
+fn alone(rt: &impl Abort, alloc: Global, laid: Way) -> Result<LocalGraph, Fail> {
+    let starts: &[u32] = &[0, 1, 3];
     assert!(rt; are_starts(starts));
-    let only = Edge {
-        src: 0,
-        dst: 1,
-        weight: 7,
-    };
-    let list = EdgeList::from_parts(2, vec![in alloc; only]?);
-    let masters = Masters::new(alloc, MasterRule::Edges, 2, starts)?;
-    Ok(LocalGraph::assemble_list(alloc, Way::Outward, host, &masters, list)?)
+    let masters = Masters::new(alloc, MasterRule::Nodes, 1, starts)?;
+    let columns = EdgeColumns::from_parts(
+        Vec::from_slice(alloc, starts)?,
+        vec![in alloc; 1, 0, 1]?,
+        vec![in alloc; 7, 8, 9]?,
+    );
+    Ok(LocalGraph::of_columns(alloc, laid, &masters, columns)?)
 }
 
 /// The heads of the arcs out of a proxy of this graph.
@@ -179,14 +175,24 @@ fn arcs_are_lent_in_file_order(rt: HostRuntime) -> Result<(), Fail> {
 }
 
 #[test]
-fn a_list_that_is_given_up_gives_the_same(rt: HostRuntime) -> Result<(), Fail> {
-    let starts: &[u32] = &[0, 1, 1];
-    for host in 0..2 {
-        let lent = assembled(&rt, rt.alloc(), Way::Both, host, starts, &[edge(0, 1, 7)])?;
-        let given = assembled_list(&rt, rt.alloc(), host, starts)?;
-        let want = proxies(rt.alloc(), &lent)?;
-        assert_eq!(rt; (given.host(), given.edges()), (host, 1));
-        assert_eq!(rt; proxies(rt.alloc(), &given)?.as_slice(), want.as_slice());
+fn columns_give_the_graph_of_one_host(rt: HostRuntime) -> Result<(), Fail> {
+    for laid in [Way::Outward, Way::Inward, Way::Both] {
+        let graph = alone(&rt, rt.alloc(), laid)?;
+        assert_eq!(rt; (graph.host(), graph.hosts(), graph.nodes()), (0, 1, 2));
+        assert_eq!(rt;
+            (graph.edges(), graph.masters(), graph.local(1)),
+            (3, 2, Some(1))
+        );
+        let want = [(0, 0, true, true), (1, 0, true, true)];
+        assert_eq!(rt; proxies(rt.alloc(), &graph)?.as_slice(), want.as_slice());
+        for (way, tail, want) in [
+            (Way::Outward, 0, [(1, 7)].as_slice()),
+            (Way::Outward, 1, [(0, 8), (1, 9)].as_slice()),
+            (Way::Inward, 1, [(0, 7), (1, 9)].as_slice()),
+            (Way::Both, 0, [(1, 7), (1, 8)].as_slice()),
+        ] {
+            assert_eq!(rt; heads(&rt, rt.alloc(), &graph, way, tail)?.as_slice(), want);
+        }
     }
     Ok(())
 }

@@ -6,19 +6,6 @@ use Rattle.partition_build.proofs.RoomsLaws.{IsRoom-rooms}
 use Rattle.partition_build.proofs.SharesMade.{IfOk-map, shares_of_rooms, shares_of_sources, shared-partition}
 use Rattle.partition_build.proofs.partition.build_whole.Goals as goal
 
-pub returns-then-hosts-eq1-clause-shares : goal.returns-then-hosts-eq1-clause-shares
-returns-then-hosts-eq1-clause-shares c =
-    let plan = c.in_ok-plan.plan in
-    let made = c.in_ok-plan.ensures in
-    IfOk-map c.assemble_alone.result _ _ (λ graphs are. are ∙ shares_of_sources c.args.rules c.args.hosts c.args.list c.nodes-nodes.ensures.facts plan made.plan made.owners
-    (λ edge within. c.sources_own.ensures.owners c.if-sources_own.true edge (subst (λ (n : ℕ). IsWithin n edge) (sym made.vertices) within)))
-    c.assemble_alone.ensures
-
-pub returns-then-hosts-eq1-clause-partition : goal.returns-then-hosts-eq1-clause-partition
-returns-then-hosts-eq1-clause-partition c =
-    let made = c.in_ok-plan.ensures in
-    shared-partition c.args.rules c.args.hosts c.args.list c.nodes-nodes.ensures.facts c.in_ok-plan.plan made.plan made.owners _ c.assemble_alone.result c.requires (returns-then-hosts-eq1-clause-shares c)
-
 pub returns-then-sources_own-clause-shares : goal.returns-then-sources_own-clause-shares
 returns-then-sources_own-clause-shares c =
     let plan = c.in_ok-plan.plan in
