@@ -8,6 +8,8 @@ pub fn is_run(locals: &[u32]) -> bool
     requires { IsStrictlyIncreasing locals.now }
     ensures some { result ≡ true → 0 < length locals.now }
     ensures row { result ≡ true → locals.now ≡ range_with_len (slice_index locals.now 0) (length locals.now) }
+    // Every row is told.
+    ensures told { 0 < length locals.now → locals.now ≡ range_with_len (slice_index locals.now 0) (length locals.now) → result ≡ true }
 {
     let count = locals.len();
     if count == 0 {
