@@ -53,6 +53,7 @@ fn next_by_steps(locals: &[u32], bits: &UpdateBits, place: usize) -> Option<u32>
 
 /// The first updated position from `place` on. Where the list goes on without a gap up to the set's next
 /// member, that member's place is as far ahead as its number: so it is in each list that is a run.
+#[inline(always)]
 pub(crate) fn next_updated(locals: &[u32], bits: &UpdateBits, place: u32) -> Option<u32>
     requires within { place ≤ length locals.now }
     requires short { length locals.now < 2 ^ 32 }

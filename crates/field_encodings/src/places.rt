@@ -73,6 +73,7 @@ fn next_id(next: usize, count: usize, from: u32, text: &[u8], ids: &[u32]) -> Op
 }
 
 /// The first position to come, which is passed.
+#[inline(always)]
 pub(crate) fn next_position(places: &mut Places<'_>) -> Option<u32>
     requires { AreReady places.old }
     ensures first { MatchOption result ((coming places.old ≡ []) × (coming places.new ≡ [])) (λ found. coming places.old ≡ found ∷ coming places.new) }

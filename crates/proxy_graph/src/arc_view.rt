@@ -49,6 +49,7 @@ impl<'a> ArcView<'a> {
     /// The same arcs in two parts, each of which lies side by side: those of out-edges and those of
     /// in-edges, where the way takes both. Where it takes one, the second part is empty. There is None
     /// where arcs that the way takes are not laid.
+    #[inline(always)]
     pub fn runs_of(&self, tail: u32) -> Option<(Run<'a>, Run<'a>)>
         requires { tail < length (proxies_here self.now.share) }
         ensures { IfSome result (λ runs. runs.0 ++ runs.1 ≡ heads_from self.now.way self.now.share tail) }

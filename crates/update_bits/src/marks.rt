@@ -23,6 +23,7 @@ pub(crate) fn next_marked(words: &[u64], marks: &[u64], i: u32) -> Option<u32>
 }
 
 /// The first bit that is set, from the first of word `start` on.
+#[inline(never)]
 fn next_from_word(words: &[u64], marks: &[u64], start: u32) -> Option<u32>
     requires short { length words.now ≤ 2 ^ 26 }
     requires marks { AreMarks words.now marks.now }

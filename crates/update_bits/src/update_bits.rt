@@ -146,6 +146,7 @@ impl UpdateBits {
 
     /// The least member that is at least `i`, and None exactly where there is none. `i` is at most
     /// the length.
+    #[inline(always)]
     pub fn next_from(&self, i: u32) -> Option<u32>
         requires { i ≤ length self.now }
         ensures next { IsNextMember self.now i result }
