@@ -6,7 +6,7 @@ use Rattle.list_laws.specs.Members.{has_member}
 use Rattle.graph_model.specs.Arcs.{Arc, arcs_of}
 use Rattle.graph_model.specs.declared.edge.Way.{Way}
 use Rattle.graph_division.specs.Shares.{Share, IsShare, proxies_here}
-use Rattle.proxy_graph.specs.Heads.{vertex_at, lid_of, heads_from}
+use Rattle.proxy_graph.specs.Heads.{Lent, vertex_at, lid_of, heads_from}
 use Rattle.reduce_laws.specs.ReductionLaws.{Reducer, ReductionLaws}
 use Rattle.reduce_laws.specs.ProgramLaws.{Steps, ProgramLaws}
 use Rattle.reduce_laws.proofs.Combining.{combined-append, combined_is_value, value_or_identity, combine_identity}
@@ -23,6 +23,10 @@ front_of P (x ∷ xs) ys h = (h.0, front_of P xs ys h.1)
 back_of : {X : Type 0} (P : X → Type 0) (xs ys : List X) → AllByRecursion P (xs ++ ys) → AllByRecursion P ys
 back_of P [] ys h = h
 back_of P (x ∷ xs) ys h = back_of P xs ys h.1
+
+-- the arcs that a view lends are those of its graph
+pub lent_by : (view : Lent) (way : Way) (share : Share) (tail : ℕ) → view.way ≡ way → view.share ≡ share → heads_from view.way view.share tail ≡ heads_from way share tail
+lent_by view way share tail same_way same_share = ap (λ w. heads_from w view.share tail) same_way ∙ ap (λ s. heads_from way s tail) same_share
 
 -- each arc out of a tail is lent
 pub heads_are_lent : (way : Way) (share : Share) → IsShare share → (tail : ℕ) → All (IsLent (length (proxies_here share))) (heads_from way share tail)

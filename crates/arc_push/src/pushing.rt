@@ -86,8 +86,41 @@ fn push_along<P: VertexProgram>(
             push_run(program, masters, y, run, items, news);
             push_run(program, masters, y, next_run, items, news);
         }
-        None => push_heads(program, masters, y, arcs.heads_of(tail), items, news),
+        None => push_found(program, graph, way, tail, y, items, news),
     }
+}
+
+/// The same where arcs that the way takes do not lie side by side. A graph that is made for its way never
+/// comes here, so this stays out of the loop over tails.
+#[inline(never)]
+fn push_found<P: VertexProgram>(
+    program: &P,
+    graph: &LocalGraph,
+    way: Way,
+    tail: u32,
+    y: P::Shown,
+    items: &mut [<P::Red as Reduction>::Item],
+    news: &mut UpdateBits,
+)
+    requires is_share { IsShare graph.now }
+    requires known { tail < length (proxies_here graph.now) }
+    requires is_shown { P.Shown.IsValue y }
+    requires items_fit { length items.old ≡ length (proxies_here graph.now) }
+    requires news_fit { length news.old ≡ length (proxies_here graph.now) }
+    requires items_are { All P.Red.Item.IsValue items.old }
+    ensures brings { (start : List P.Red.Item) (first : List Bool) (before : P.Shown → ℕ → P.Red.Item)
+        → Begins P.Red.Item.IsValue P.Red.reducer (length (masters_here graph.now)) (length (proxies_here graph.now)) start first
+        → Brings P.Red.Item.IsValue P.Red.reducer (length (masters_here graph.now)) (length (proxies_here graph.now)) before start first items.old news.old
+        → Brings P.Red.Item.IsValue P.Red.reducer (length (masters_here graph.now)) (length (proxies_here graph.now))
+        (λ none l. P.Red.reducer.combine (before none l) (brought_by P.Red.reducer (P.steps program.now) y (heads_from way graph.now tail) l))
+        start first items.new news.new }
+    ensures items_fit { length items.new ≡ length items.old }
+    ensures news_fit { length news.new ≡ length news.old }
+    ensures are_items { All P.Red.Item.IsValue items.new }
+{
+    let masters = graph.masters();
+    let arcs = graph.arcs(way);
+    push_heads(program, masters, y, arcs.heads_of(tail), items, news);
 }
 
 /// Combines the items along the arcs of one run, whose tail shows `y`, into the items of their heads, which

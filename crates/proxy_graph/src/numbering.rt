@@ -53,10 +53,12 @@ impl Numbering {
         requires few { self.now.count + length self.now.mirrored < 2 ^ 32 }
         ensures { result ≡ slice_index (table_of self.now) v }
     {
+        // Both are at hand before it is known which counts: a guess would be wrong too often.
+        let before = self.mirrored.rank(v);
         if is_hosted(self.first, self.count, v) {
             v - self.first
         } else {
-            self.count + self.mirrored.rank(v)
+            self.count + before
         }
     }
 

@@ -2,14 +2,10 @@ use Rattle.std.proofs.Common.{◌≡◌, ◌++◌, ℕ, length, sym, ap, subst, 
 use Rattle.std.specs.List.{All}
 use Rattle.graph_model.specs.declared.edge.Way.{Way}
 use Rattle.graph_division.specs.Shares.{Share, masters_here, proxies_here}
-use Rattle.proxy_graph.specs.Heads.{Lent, heads_from}
+use Rattle.proxy_graph.specs.Heads.{heads_from}
 use Rattle.arc_push.specs.Pushing.{IsLent}
-use Rattle.arc_push.proofs.Followed.{Follows, follows_among, heads_are_lent, runs_are_lent, both_followed}
+use Rattle.arc_push.proofs.Followed.{Follows, follows_among, lent_by, runs_are_lent, both_followed}
 use Rattle.arc_push.proofs.pushing.push_along.Goals as goal
-
--- the arcs that a view lends are those of its graph
-lent_by : (view : Lent) (way : Way) (share : Share) (tail : ℕ) → view.way ≡ way → view.share ≡ share → heads_from view.way view.share tail ≡ heads_from way share tail
-lent_by view way share tail same_way same_share = ap (λ w. heads_from w view.share tail) same_way ∙ ap (λ s. heads_from way s tail) same_share
 
 pub push_run-requires-clause-are_lent : goal.push_run-requires-clause-are_lent
 push_run-requires-clause-are_lent g c =
@@ -22,13 +18,6 @@ push_run-requires-in-Some-clause-are_lent g c =
     let share = c.args.graph.now in
     let parts : c.in-Some.run' ++ c.in-Some.next_run ≡ heads_from c.args.way share c.args.tail = c.in-Some.ensures ∙ lent_by c.arcs-arcs.result c.args.way share c.args.tail c.arcs-arcs.ensures.way c.arcs-arcs.ensures.share in
     subst (λ n. All (IsLent n) c.in-Some.next_run) (sym (c.push_run.ensures.items_fit ∙ c.requires.items_fit)) (runs_are_lent c.args.way share c.requires.is_share c.args.tail c.in-Some.run' c.in-Some.next_run parts).1
-
-pub push_heads-requires-clause-are_lent : goal.push_heads-requires-clause-are_lent
-push_heads-requires-clause-are_lent g c =
-    let share = c.args.graph.now in
-    let same : c.heads_of.result ≡ heads_from c.args.way share c.args.tail = c.heads_of.ensures ∙ lent_by c.arcs-arcs.result c.args.way share c.args.tail c.arcs-arcs.ensures.way c.arcs-arcs.ensures.share in
-    subst (λ n. All (IsLent n) c.heads_of.result) (sym c.requires.items_fit)
-    (subst (All (IsLent (length (proxies_here share)))) (sym same) (heads_are_lent c.args.way share c.requires.is_share c.args.tail))
 
 pub returns-in-Some-clause-brings : goal.returns-in-Some-clause-brings
 returns-in-Some-clause-brings g c =
@@ -47,14 +36,3 @@ returns-in-Some-clause-brings g c =
     subst (λ arcs. Follows g.P.Red.Item.Word.IsValue g.P.Red.Reduction.reducer steps c.args.y masters proxies arcs c.args.items.now c.args.news.now c.push_run-in-Some.new.items c.push_run-in-Some.new.news) parts
     (both_followed g.met.P.Red.Reduction.laws (g.met.P.VertexProgram.laws c.args.program.now) proxies c.args.y c.requires.is_shown masters run next_run lent.0 lent.1
     c.args.items.now c.args.news.now c.push_run.new.items c.push_run.new.news c.push_run-in-Some.new.items c.push_run-in-Some.new.news one other)
-
-pub returns-in-None-clause-brings : goal.returns-in-None-clause-brings
-returns-in-None-clause-brings g c =
-    let share = c.args.graph.now in
-    let steps = g.P.VertexProgram.steps c.args.program.now in
-    let masters = length (masters_here share) in
-    let proxies = length (proxies_here share) in
-    let same : c.heads_of.result ≡ heads_from c.args.way share c.args.tail = c.heads_of.ensures ∙ lent_by c.arcs-arcs.result c.args.way share c.args.tail c.arcs-arcs.ensures.way c.arcs-arcs.ensures.share in
-    subst (λ arcs. Follows g.P.Red.Item.Word.IsValue g.P.Red.Reduction.reducer steps c.args.y masters proxies arcs c.args.items.now c.args.news.now c.push_heads.new.items c.push_heads.new.news) same
-    (follows_among g.P.Red.Item.Word.IsValue g.P.Red.Reduction.reducer steps c.args.y c.masters-masters.ensures.masters c.requires.items_fit
-    c.heads_of.result c.args.items.now c.args.news.now c.push_heads.new.items c.push_heads.new.news c.push_heads.ensures.brings)
