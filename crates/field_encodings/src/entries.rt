@@ -52,6 +52,7 @@ impl<'a, W: Word> Iterator for Entries<'a, W> {
 
     ghost remaining = { item_count (λ e. e) };
 
+    #[inline(always)]
     fn next(&mut self) -> Option<(u32, W)> {
         let position = next_position(&mut self.places)?;
         let (value, values) = self.values.split_at(W::WIDTH as usize);
