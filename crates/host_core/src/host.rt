@@ -129,7 +129,7 @@ impl<P: VertexProgram> Host<P> {
         let hosts = graph.hosts();
         let states = start_states(alloc, &program, &graph)?;
         let shown = start_shown(alloc, &program, &graph)?;
-        let next = Vec::from_slice(alloc, &shown)?;
+        let next = Vec::from_slice(alloc, shown.as_slice())?;
         let items = start_items(alloc, &program, masters, &shown)?;
         let mut awake = UpdateBits::new(alloc, proxies)?;
         awake.set_all();

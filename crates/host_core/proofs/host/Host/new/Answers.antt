@@ -1,12 +1,12 @@
-use Rattle.std.proofs.Common.{List, Bool, length, replicate, false, refl, ap, subst, ◌∙◌}
-use Rattle.std.specs.List.{count_by, range_with_len}
+use Rattle.std.proofs.Common.{◌≡◌, List, Bool, length, replicate, false, refl, sym, ap, subst, ◌∙◌}
+use Rattle.std.specs.List.{All, count_by, range_with_len}
 use Rattle.std.proofs.lemmas.List.{length-replicate}
 use Rattle.list_laws.specs.Members.{no_members, all_members}
 use Rattle.std.specs.Prelude.{nat_lt}
 use Rattle.graph_division.specs.Shares.{masters_here, proxies_here}
 use Rattle.address_memo.specs.Memos.{AreMemos, list_at}
 use Rattle.cluster_laws.specs.Channels.{is_needed}
-use Rattle.host_fields.specs.Started.{AreItems}
+use Rattle.host_fields.specs.Started.{AreItems, AreShown}
 use Rattle.host_state.specs.HostState.{HostState}
 use Rattle.host_core.proofs.Opening.{Opens, opens_kept, opens_fresh, opens_everywhere}
 use Rattle.host_core.proofs.host.Host.new.Given
@@ -43,6 +43,7 @@ opens g c =
     let masters = c.masters-masters.ensures.masters in
     let proxies = c.proxies-proxies.ensures.proxies in
     let hosts = c.hosts-hosts.ensures.hosts in
+    let same : c.in_ok-shown.shown.items ≡ c.in_ok-next.next.items = sym (c.in_ok-next.ensures.items ∙ c.as_slice.ensures.value) in
     record {
       is_share = c.hosts-hosts.ensures.facts;
       is_memo = subst AreMemos c.memo.view_is c.memo.invariant;
@@ -52,13 +53,13 @@ opens g c =
       masters_are = refl;
       states = c.in_ok-states.ensures.states;
       shown = c.in_ok-shown.ensures.shown;
-      next = c.in_ok-next.ensures.shown;
+      next = subst (λ (ys : List g.row.P-Shown.Denot). AreShown (g.P.VertexProgram.steps c.args.program) c.args.graph ys) same c.in_ok-shown.ensures.shown;
       items =
           subst (λ n. AreItems g.P.Red.Reduction.reducer (g.P.VertexProgram.steps c.args.program) n c.in_ok-shown.shown.items c.in_ok-items.items.items) masters
           (subst (λ (ys : List g.row.P-Shown.Denot). AreItems g.P.Red.Reduction.reducer (g.P.VertexProgram.steps c.args.program) c.masters-masters.result ys c.in_ok-items.items.items) c.deref.ensures.value c.in_ok-items.ensures.items);
       states_are = c.in_ok-states.ensures.are_states;
       shown_are = c.in_ok-shown.ensures.are_shown;
-      next_are = c.in_ok-next.ensures.are_shown;
+      next_are = subst (All g.P.Shown.Word.IsValue) same c.in_ok-shown.ensures.are_shown;
       items_are = c.in_ok-items.ensures.are_items;
       awake = c.set_all.ensures ∙ ap (λ (bits : List Bool). all_members (length bits)) c.in_ok-awake.ensures ∙ ap all_members (length-replicate c.proxies-proxies.result false ∙ proxies);
       awake_next = c.in_ok-awake_next.ensures ∙ ap no_members proxies;

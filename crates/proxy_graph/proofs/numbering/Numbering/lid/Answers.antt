@@ -13,7 +13,7 @@ returns-then-is_hosted c =
 pub returns-else-is_hosted : goal.returns-else-is_hosted
 returns-else-is_hosted c =
     let numbering = c.args.self.now in
-    ap (λ n. numbering.count + n) c.rank.ensures
+    ap (λ n. numbering.count + n) c.rank-before.ensures
     ∙ sym (
     table_at numbering c.args.v c.requires.known
     ∙ ap (λ b. cond b (c.args.v - numbering.first) (numbering.count + count_of (take c.args.v numbering.mirrored))) (sym c.if-is_hosted.ensures))
